@@ -1,0 +1,6 @@
+pub mod Upto
+pub mod ByPlace
+pub mod RateLaw
+pub mod RunningLaw
+pub mod Ranks
+pub mod LargestLaw

@@ -1,0 +1,5 @@
+pub mod Sharing
+pub mod Places
+pub mod Rate
+pub mod Running
+pub mod LargestRemainder
