@@ -36,3 +36,37 @@ pub fn nearest(n: i64, d: u64) -> Option<i64>
     }
     Some(nearest_above_zero(n, d))
 }
+
+#[cfg(test)]
+mod tests {
+    use super::*;
+    use std::test::*;
+
+    // n, d and the whole number nearest to n / d, worked out by hand
+    const FIGURES: [(i64, u64, i64); 14] = [
+        (0, 7, 0),
+        (1, 2, 1),
+        (-1, 2, -1),
+        (1, 3, 0),
+        (2, 3, 1),
+        (-2, 3, -1),
+        (5, 2, 3),
+        (-5, 2, -3),
+        (249, 100, 2),
+        (250, 100, 3),
+        (-350, 100, -4),
+        (9_223_372_036_854_775_807, 1, 9_223_372_036_854_775_807),
+        (-9_223_372_036_854_775_808, 1, -9_223_372_036_854_775_808),
+        (9_223_372_036_854_775_807, 18_446_744_073_709_551_615, 0),
+    ];
+
+    #[test]
+    fn figures() -> Result<(), Fail> {
+        for (n, d, wanted) in FIGURES {
+            check_eq(nearest(n, d), Some(wanted))?;
+        }
+        check_eq(nearest(5, 0), None)?;
+        check_eq(with_sign(-5, 3), Some(-3))?;
+        check_eq(with_sign(5, 6), None)
+    }
+}
