@@ -1,12 +1,9 @@
 -- Rounding by quotient and remainder: which of the two whole numbers it takes, and how far off that is. Assumes nothing.
-use mathlib.Core.Path.{_≡_, refl, sym, ap, _∙_}
-use mathlib.Core.Bool.{Bool, true, false}
-use mathlib.Core.Logic.{⊎-elim}
+use mathlib.Core.Path.{_≡_, ap, _∙_}
 use Prim.Native.Nat.{ℕ, _+_, _-_, _*_, _/_, _%_, _<_, _≤_}
 use native.Mathlib.Nat.{mul-left-comm}
 use native.Mathlib.Omega.{arith}
-use lib.Dec.{leb}
-use lib.IntN.{ℤ, pos, natAbs, _-ℤ_, _*ℤ_}
+use lib.IntN.{ℤ, natAbs}
 use Rattle.std.proofs.shelf.Bits.{div-add-mod', div-below, div-mul-add, mod-below, mul-le}
 use Rattle.rounding.specs.Nearest.{half-up, nearest}
 use Rattle.rounding.proofs.Signs.{natAbs-signed}

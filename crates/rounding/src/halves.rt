@@ -1,9 +1,7 @@
 // Rounding by quotient and remainder, which overflows nowhere.
 ghost use mathlib.Core.Path.{_≡_};
 ghost use Prim.Native.Nat.{_+_, _*_, _/_, _%_, _^_, _<_, _≤_};
-ghost use mathlib.Core.Bool.{cond};
 ghost use lib.Dec.{leb};
-ghost use lib.IntN.{natAbs};
 ghost use Rattle.rounding.specs.Nearest.{half-up, Rounded};
 use super::with_sign;
 
@@ -15,7 +13,7 @@ fn at_least_half(left: u64, d: u64) -> bool
     left >= d - left
 }
 
-// The whole number nearest to `m / d`, a half going up.
+// The whole number nearest to `m / d`, a half going up. The size of an `i64` leaves room for one more.
 fn half_up(m: u64, d: u64) -> u64
     requires { ⌜ 0 < d ⌝ ∗ ⌜ m ≤ 2 ^ 63 ⌝ }
     ensures { λ r. ⌜ r ≡ half-up m d ⌝ }
@@ -24,7 +22,7 @@ fn half_up(m: u64, d: u64) -> u64
 }
 
 // The whole number nearest to `n / d`, with the law that singles it out.
-pub(super) fn nearest_above_zero(n: i64, d: u64) -> i64
+pub(super) fn nearest_quotient(n: i64, d: u64) -> i64
     requires { ⌜ 0 < d ⌝ }
     ensures { λ r. ⌜ Rounded n d r ⌝ }
 {

@@ -1,7 +1,6 @@
 // The whole number nearest to a quotient, a half going away from zero.
 //
-// Every amount of the settlement that is not a whole number of cents or of a price unit is rounded here and nowhere
-// else, so that two charge codes cannot round in two ways.
+// Rounding to the nearest is done here and nowhere else, so that two amounts cannot be rounded in two ways.
 mod halves;
 
 ghost use mathlib.Core.Path.{_≡_};
@@ -10,7 +9,7 @@ ghost use lib.IntN.{natAbs};
 ghost use Rattle.std.specs.Numbers.{Checked};
 ghost use Rattle.std.specs.Options.{Cases as BySome};
 ghost use Rattle.rounding.specs.Nearest.{signed, Rounded};
-use halves::nearest_above_zero;
+use halves::nearest_quotient;
 
 // A part of `n`: `size` with the sign of `n`; `None` where that is more than `n` itself.
 pub fn with_sign(n: i64, size: u64) -> Option<i64>
@@ -19,6 +18,7 @@ pub fn with_sign(n: i64, size: u64) -> Option<i64>
     if size > n.unsigned_abs() {
         return None;
     }
+    // At the least `i64` the size is 2^63, whose cast is that number itself, and so is its wrapping negation.
     let forward = size.cast_signed();
     Some(if n < 0 {
         forward.wrapping_neg()
@@ -34,7 +34,7 @@ pub fn nearest(n: i64, d: u64) -> Option<i64>
     if d == 0 {
         return None;
     }
-    Some(nearest_above_zero(n, d))
+    Some(nearest_quotient(n, d))
 }
 
 #[cfg(test)]

@@ -9,7 +9,7 @@ use lib.Dec.{ltb, eqb}
 use Rattle.std.proofs.shelf.Tests.{cases-eq, cases-bool, eq-eqb, ne-eqb, lt-ltb, le-ltb}
 use Rattle.std.proofs.shelf.Ways.{tells}
 use Rattle.sharing.specs.Places.{upto, one-if}
-use Rattle.sharing.proofs.Upto.{upto-le, upto-lt, upto-add, upto-same, upto-ones}
+use Rattle.sharing.proofs.Upto.{upto-lt, upto-add, upto-same, upto-ones}
 
 -- how many of the places below n the test picks
 abbrev pub count : (ℕ → Bool) → ℕ → ℕ

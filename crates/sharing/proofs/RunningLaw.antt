@@ -1,7 +1,7 @@
 -- The running rule is exact, and keeps the one-cent law and its own. Assumes nothing.
-use mathlib.Core.Path.{_≡_, refl, sym, ap, _∙_}
+use mathlib.Core.Path.{_≡_, ap, _∙_}
 use mathlib.Core.List.{List}
-use Prim.Native.Nat.{ℕ, _+_, _-_, _*_, _/_, _%_, _<_, _≤_}
+use Prim.Native.Nat.{ℕ, _+_, _-_, _*_, _/_, _<_, _≤_}
 use native.Mathlib.Nat.{mul-le-mul-left, mul-zero, zero-div, mul-div-cancel}
 use native.Mathlib.Omega.{arith}
 use lib.ListN.{length, getD, take}

@@ -1,4 +1,5 @@
 pub mod Sharing
+pub mod Beyond
 pub mod Places
 pub mod Rate
 pub mod Running

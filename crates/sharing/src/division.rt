@@ -1,7 +1,7 @@
-// A size of cents that is divided over weights.
+// An amount that is divided over weights, by its size alone: the rules put the sign back onto each share.
 ghost use mathlib.Core.Path.{_≡_};
-ghost use Prim.Native.Nat.{ℕ, _*_, _/_, _%_, _^_, _<_, _≤_};
-ghost use lib.ListN.{length, getD};
+ghost use Prim.Native.Nat.{_*_, _/_, _%_, _^_, _<_, _≤_};
+ghost use lib.ListN.{length};
 ghost use Rattle.std.specs.shelf.Lists.{sum};
 ghost use Rattle.sharing.specs.LargestRemainder.{whole, left, spare, ahead, rank, largest-cents};
 ghost use denote.Ref.{now as behind};
@@ -17,7 +17,7 @@ pub(super) struct Division<'a> {
 }
 
 impl<'a> Division<'a> {
-    // What `part` of the total gets, rounded down.
+    // What `part` of the total gets, rounded down. A part of 32 bits times the size fits 64 bits.
     pub(super) fn portion(&self, part: u64) -> u64
         requires { ⌜ part < 2 ^ 32 ⌝ }
         ensures { λ r. ⌜ r ≡ now (self .entry) .size * part / now (self .entry) .total ⌝ }

@@ -9,8 +9,13 @@ mod rate;
 mod rule;
 mod running;
 
-pub use bounds::MOST_CENTS;
-pub use bounds::MOST_WEIGHT;
+pub use bounds::MAX_AMOUNT_CENTS;
+pub use bounds::MAX_TOTAL_WEIGHT;
+pub use bounds::OutOfBounds;
+pub use bounds::OutOfBoundsDebug;
+pub use bounds::OutOfBoundsDisplay;
+pub use bounds::OutOfBoundsPartialEq;
+pub use bounds::check_bounds;
 pub use bounds::total_weight;
 pub use largest_remainder::LargestExact;
 pub use largest_remainder::LargestRemainderRule;

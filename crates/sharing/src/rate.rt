@@ -16,25 +16,25 @@ use rounding::nearest;
 #[derive(Clone, Copy)]
 pub struct RateRule;
 
-// The nearest of `f × weight ÷ total`.
-fn rate_share(f: i64, weight: u32, total: u64) -> i64
-    requires { ⌜ natAbs f ≤ 1000000000 ⌝ ∗ ⌜ 0 < total ⌝ }
-    ensures value { λ r. ⌜ r ≡ nearest (f *ℤ pos weight) total ⌝ }
+// The nearest of `amount × weight ÷ total`.
+fn rate_share(amount: i64, weight: u32, total: u64) -> i64
+    requires { ⌜ natAbs amount ≤ 1000000000 ⌝ ∗ ⌜ 0 < total ⌝ }
+    ensures value { λ r. ⌜ r ≡ nearest (amount *ℤ pos weight) total ⌝ }
     ensures small { λ r. ⌜ natAbs r ≤ 1000000000 * weight ⌝ }
 {
-    nearest(f * i64::from(weight), total).unwrap()
+    nearest(amount * i64::from(weight), total).unwrap()
 }
 
 // Writes the shares, and answers the rest.
-fn share_by_rate(f: i64, weights: &[u32], total: u64, shares: &mut [i64]) -> i64
-    requires { ⌜ Ready f (now weights) (length (now shares)) ⌝ ∗ ⌜ total ≡ sum (now weights) ⌝ }
-    ensures shares { λ _. ⌜ now (shares .exit) ≡ rate f (now (weights .entry)) ⌝ }
-    ensures rest { λ r. ⌜ r ≡ rest-of f (rate f (now (weights .entry))) ⌝ }
-    ensures law { λ _. ⌜ NearestShares f (now (weights .entry)) (now (shares .exit)) ⌝ }
+fn share_by_rate(amount: i64, weights: &[u32], total: u64, shares: &mut [i64]) -> i64
+    requires { ⌜ Ready amount (now weights) (length (now shares)) ⌝ ∗ ⌜ total ≡ sum (now weights) ⌝ }
+    ensures shares { λ _. ⌜ now (shares .exit) ≡ rate amount (now (weights .entry)) ⌝ }
+    ensures rest { λ r. ⌜ r ≡ rest-of amount (rate amount (now (weights .entry))) ⌝ }
+    ensures law { λ _. ⌜ NearestShares amount (now (weights .entry)) (now (shares .exit)) ⌝ }
 {
-    let mut rest = f;
+    let mut rest = amount;
     for (i, w) in weights.iter().enumerate() {
-        let share = rate_share(f, *w, total);
+        let share = rate_share(amount, *w, total);
         shares[i] = share;
         rest -= share;
     }
@@ -44,13 +44,13 @@ fn share_by_rate(f: i64, weights: &[u32], total: u64, shares: &mut [i64]) -> i64
 pub impl SharingRule for RateRule as RateSharing {
     ghost meaning = { λ _. rate };
 
-    fn share(&self, f: i64, weights: &[u32], shares: &mut [i64]) -> i64
-        ensures rule { λ r. ⌜ Shared rate f (now (weights .entry)) (now (shares .entry)) (now (shares .exit)) r ⌝ }
-        ensures law { λ _. ⌜ (Ready f (now (weights .entry)) (length (now (shares .entry))) → NearestShares f (now (weights .entry)) (now (shares .exit))) ⌝ }
+    fn share(&self, amount: i64, weights: &[u32], shares: &mut [i64]) -> i64
+        ensures rule { λ r. ⌜ Shared rate amount (now (weights .entry)) (now (shares .entry)) (now (shares .exit)) r ⌝ }
+        ensures law { λ _. ⌜ (Ready amount (now (weights .entry)) (length (now (shares .entry))) → NearestShares amount (now (weights .entry)) (now (shares .exit))) ⌝ }
     {
-        match ready(f, weights, shares.len()) {
-            Some(total) => share_by_rate(f, weights, total, shares),
-            None => f,
+        match ready(amount, weights, shares.len()) {
+            Some(total) => share_by_rate(amount, weights, total, shares),
+            None => amount,
         }
     }
 }

@@ -14,10 +14,10 @@ pub trait SharingRule {
 
     law cent: { (r : Self) (f : ℤ) (ws : List ℕ) → Within f ws → OneCent f ws (meaning r f ws) };
 
-    // Writes the share of each weight into the cell of its place, and answers the rest of `f`. Outside the bounds, or
-    // with a table that is not as long as the weights, it writes nothing and answers `f`.
-    fn share(&self, f: i64, weights: &[u32], shares: &mut [i64]) -> i64
-        ensures { λ r. ⌜ Shared (meaning (now (self .entry))) f (now (weights .entry)) (now (shares .entry)) (now (shares .exit)) r ⌝ };
+    // Writes the share of each weight into the cell of its place, and answers the rest of the amount. Outside the
+    // bounds, or with a table that is not as long as the weights, it writes nothing and answers the amount.
+    fn share(&self, amount: i64, weights: &[u32], shares: &mut [i64]) -> i64
+        ensures { λ r. ⌜ Shared (meaning (now (self .entry))) amount (now (weights .entry)) (now (shares .entry)) (now (shares .exit)) r ⌝ };
 }
 
 // A sharing rule that leaves no rest inside the bounds: its shares add up to the amount.
@@ -25,10 +25,10 @@ pub trait ExactRule: SharingRule {
     law exact: { (r : Self) (f : ℤ) (ws : List ℕ) → Within f ws → rest-of f (Self·SharingRule .meaning r f ws) ≡ pos 0 };
 
     // Shares as the rule does, and answers 0 wherever it shares.
-    fn share_exactly(&self, f: i64, weights: &[u32], shares: &mut [i64]) -> i64
-        ensures rule { λ r. ⌜ Shared (Self·SharingRule .meaning (now (self .entry))) f (now (weights .entry)) (now (shares .entry)) (now (shares .exit)) r ⌝ }
-        ensures whole { λ r. ⌜ (Ready f (now (weights .entry)) (length (now (shares .entry))) → r ≡ pos 0) ⌝ }
+    fn share_exactly(&self, amount: i64, weights: &[u32], shares: &mut [i64]) -> i64
+        ensures rule { λ r. ⌜ Shared (Self·SharingRule .meaning (now (self .entry))) amount (now (weights .entry)) (now (shares .entry)) (now (shares .exit)) r ⌝ }
+        ensures whole { λ r. ⌜ (Ready amount (now (weights .entry)) (length (now (shares .entry))) → r ≡ pos 0) ⌝ }
     {
-        self.share(f, weights, shares)
+        self.share(amount, weights, shares)
     }
 }

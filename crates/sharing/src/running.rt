@@ -2,7 +2,7 @@
 ghost use mathlib.Core.Path.{_≡_};
 ghost use Prim.Native.Nat.{_-_, _≤_};
 ghost use lib.ListN.{length};
-ghost use lib.IntN.{natAbs};
+ghost use lib.IntN.{pos, natAbs};
 ghost use Rattle.std.specs.shelf.Lists.{sum};
 ghost use Rattle.rounding.specs.Nearest.{signed};
 ghost use Rattle.sharing.specs.Sharing.{Ready, Shared, rest-of};
@@ -17,23 +17,23 @@ use rounding::with_sign;
 #[derive(Clone, Copy)]
 pub struct RunningRule;
 
-// The cents of `f` from `before` up to `reached`, with the sign of `f`.
-fn step(f: i64, before: u64, reached: u64) -> i64
-    requires { ⌜ before ≤ reached ⌝ ∗ ⌜ reached - before ≤ natAbs f ⌝ }
-    ensures { λ r. ⌜ r ≡ signed f (reached - before) ⌝ }
+// The cents of `amount` from `before` up to `reached`, with the sign of `amount`.
+fn step(amount: i64, before: u64, reached: u64) -> i64
+    requires { ⌜ before ≤ reached ⌝ ∗ ⌜ reached - before ≤ natAbs amount ⌝ }
+    ensures { λ r. ⌜ r ≡ signed amount (reached - before) ⌝ }
 {
-    with_sign(f, reached - before).unwrap()
+    with_sign(amount, reached - before).unwrap()
 }
 
-// Writes the shares, and answers the rest, which is 0.
-fn share_by_running(f: i64, weights: &[u32], total: u64, shares: &mut [i64]) -> i64
-    requires { ⌜ Ready f (now weights) (length (now shares)) ⌝ ∗ ⌜ total ≡ sum (now weights) ⌝ }
-    ensures shares { λ _. ⌜ now (shares .exit) ≡ running f (now (weights .entry)) ⌝ }
-    ensures rest { λ r. ⌜ r ≡ rest-of f (running f (now (weights .entry))) ⌝ }
-    ensures law { λ _. ⌜ RunningShares f (now (weights .entry)) (now (shares .exit)) ⌝ }
+// Writes the shares, which leave no rest.
+fn share_by_running(amount: i64, weights: &[u32], total: u64, shares: &mut [i64])
+    requires { ⌜ Ready amount (now weights) (length (now shares)) ⌝ ∗ ⌜ total ≡ sum (now weights) ⌝ }
+    ensures shares { λ _. ⌜ now (shares .exit) ≡ running amount (now (weights .entry)) ⌝ }
+    ensures rest { λ _. ⌜ rest-of amount (running amount (now (weights .entry))) ≡ pos 0 ⌝ }
+    ensures law { λ _. ⌜ RunningShares amount (now (weights .entry)) (now (shares .exit)) ⌝ }
 {
-    let parts = Division {
-        size: f.unsigned_abs(),
+    let division = Division {
+        size: amount.unsigned_abs(),
         weights,
         total,
     };
@@ -41,23 +41,25 @@ fn share_by_running(f: i64, weights: &[u32], total: u64, shares: &mut [i64]) -> 
     let mut before = 0;
     for (i, w) in weights.iter().enumerate() {
         sum += u64::from(*w);
-        let reached = parts.portion(sum);
-        shares[i] = step(f, before, reached);
+        let reached = division.portion(sum);
+        shares[i] = step(amount, before, reached);
         before = reached;
     }
-    0
 }
 
 pub impl SharingRule for RunningRule as RunningSharing {
     ghost meaning = { λ _. running };
 
-    fn share(&self, f: i64, weights: &[u32], shares: &mut [i64]) -> i64
-        ensures rule { λ r. ⌜ Shared running f (now (weights .entry)) (now (shares .entry)) (now (shares .exit)) r ⌝ }
-        ensures law { λ _. ⌜ (Ready f (now (weights .entry)) (length (now (shares .entry))) → RunningShares f (now (weights .entry)) (now (shares .exit))) ⌝ }
+    fn share(&self, amount: i64, weights: &[u32], shares: &mut [i64]) -> i64
+        ensures rule { λ r. ⌜ Shared running amount (now (weights .entry)) (now (shares .entry)) (now (shares .exit)) r ⌝ }
+        ensures law { λ _. ⌜ (Ready amount (now (weights .entry)) (length (now (shares .entry))) → RunningShares amount (now (weights .entry)) (now (shares .exit))) ⌝ }
     {
-        match ready(f, weights, shares.len()) {
-            Some(total) => share_by_running(f, weights, total, shares),
-            None => f,
+        match ready(amount, weights, shares.len()) {
+            Some(total) => {
+                share_by_running(amount, weights, total, shares);
+                0
+            }
+            None => amount,
         }
     }
 }

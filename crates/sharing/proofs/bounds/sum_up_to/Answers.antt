@@ -1,7 +1,5 @@
-use Prim.Native.Nat.{_+_, _<_}
-use lib.ListN.{length}
+use Prim.Native.Nat.{_+_}
 use native.Mathlib.Omega.{arith}
-use borrow.Author.Needs.{needs}
 use Rattle.std.proofs.shelf.Lists.{take-all}
 use Rattle.std.proofs.shelf.Sums.{sumBy-more, sumBy-take-le}
 use Rattle.sharing.proofs.bounds.sum_up_to.Needs as need

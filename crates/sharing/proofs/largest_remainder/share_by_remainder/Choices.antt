@@ -7,4 +7,4 @@ use Rattle.sharing.proofs.largest_remainder.share_by_remainder.Given as given
 
 -- the shares so far are written
 abbrev pub Inv-loop-i : given.InvT-loop-i
-Inv-loop-i l = (k : ℕ) → k < l .i → getD (l .shares) k (pos 0) ≡ largest-at (l .f) (l .weights) k
+Inv-loop-i l = (k : ℕ) → k < l .i → getD (l .shares) k (pos 0) ≡ largest-at (l .amount) (l .weights) k

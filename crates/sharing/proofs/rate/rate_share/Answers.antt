@@ -15,12 +15,12 @@ use Rattle.sharing.proofs.rate.rate_share.Needs as need
 product-fits : (f : ℤ) (w : ℕ) → natAbs f ≤ 1000000000 → w < 2 ^ 32 → SFits w64 (f *ℤ pos w)
 product-fits f w a b = omega (arith, ints, natAbs-mul f w, mul-le (natAbs f) w 1000000000 4294967296 a (omega arith))
 
-pub mul-f : need.mul-f
-mul-f c = let p = product-fits (c .args .f) (c .args .weight) (c .pre .0) (c .fits .weight .fits) in grind (arith, toZ-ofZ)
+pub mul-amount : need.mul-amount
+mul-amount c = let p = product-fits (c .args .amount) (c .args .weight) (c .pre .0) (c .fits .weight .fits) in grind (arith, toZ-ofZ)
 
 pub returns : need.returns
 returns c =
-    let f = c .args .f in
+    let f = c .args .amount in
     let w = c .args .weight in
     let n = f *ℤ pos w in
     let p : SFits w64 n = product-fits f w (c .pre .0) (c .fits .weight .fits) in

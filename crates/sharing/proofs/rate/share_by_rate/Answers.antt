@@ -1,17 +1,15 @@
 use mathlib.Core.Path.{_≡_, sym, subst}
-use mathlib.Core.List.{map}
 use native.Mathlib.Omega.{arith}
 use mir.Syntax.{w64}
 use mir.Val.{toZ, ofZ}
 use lib.ListN.{length}
-use lib.IntN.{ℤ, pos}
-use Rattle.std.specs.Iters.{counting}
+use lib.IntN.{pos}
 use Rattle.std.proofs.shelf.Edits.{fill-by-more}
 use Rattle.std.proofs.shelf.Signed.{ints, toZ-ofZ}
 use Rattle.std.proofs.shelf.Sums.{sumBy-more, sumBy-take-le}
 use Rattle.sharing.specs.Sharing.{Within, rest-of}
 use Rattle.sharing.specs.Rate.{rate, rate-at, NearestShares}
-use Rattle.sharing.proofs.ByPlace.{added-to, added-to-more, written}
+use Rattle.sharing.proofs.ByPlace.{added-to-more, written}
 use Rattle.sharing.proofs.RateLaw.{rate-law}
 use Rattle.sharing.proofs.rate.share_by_rate.Needs as need
 
@@ -23,7 +21,7 @@ sub-rest c =
 
 pub loop-i-again : need.loop-i-again
 loop-i-again c =
-    let f = toZ w64 (ofZ w64 (c .args .f)) in
+    let f = toZ w64 (ofZ w64 (c .args .amount)) in
     let ws = c .args .weights .now in
     let i = c .loop-i .i in
     let s = rate-at f ws in
@@ -38,9 +36,9 @@ loop-i-again c =
 pub returns : need.returns
 unfolding rate rest-of
 returns c =
-    let f = c .args .f in
+    let f = c .args .amount in
     let ws = c .args .weights .now in
-    let fits = c .fits .f in
+    let fits = c .fits .amount in
     let end : c .loop-i .i ≡ length ws = omega arith in
     let done : c .loop-i .shares ≡ rate f ws = written rate-at (toZ w64 (ofZ w64 f)) f ws (c .loop-i .shares) (c .loop-i .i) (toZ-ofZ w64 f fits) (c .loop-i-test .left) (omega arith) (c .loop-i .inv .0) in
     let within : Within f ws = c .pre .0 .within in

@@ -10,7 +10,7 @@ use Rattle.sharing.proofs.rate.share_by_rate.Given as given
 -- the shares so far are written, rest is what they leave, and they are few enough that it fits
 abbrev pub Inv-loop-i : given.InvT-loop-i
 Inv-loop-i l =
-    let s = rate-at (l .f) (l .weights) in
+    let s = rate-at (l .amount) (l .weights) in
     ((k : ℕ) → k < l .i → getD (l .shares) k (pos 0) ≡ s k)
-    × (l .rest ≡ l .f -ℤ added-to s (l .i))
+    × (l .rest ≡ l .amount -ℤ added-to s (l .i))
     × (natAbs (added-to s (l .i)) ≤ 1000000000 * sum (take (l .i) (l .weights)))

@@ -27,7 +27,7 @@ portion-reached-requires c κs =
     omega (arith, ints, sumBy-more (λ x. x) ws i 0 (c .loop-i-test .taken), sumBy-take-le (λ x. x) ws (i + 1))
 
 -- the weights up to here, and what they get together
-here : (c : After-portion-reached) → (c .loop-i .sum + c .from-sum .result ≡ sum (take (c .loop-i .i + 1) (c .args .weights .now))) × (c .portion-reached .result ≡ reached (natAbs (toZ w64 (ofZ w64 (c .args .f)))) (c .args .weights .now) (c .loop-i .i + 1))
+here : (c : After-portion-reached) → (c .loop-i .sum + c .from-sum .result ≡ sum (take (c .loop-i .i + 1) (c .args .weights .now))) × (c .portion-reached .result ≡ reached (natAbs (toZ w64 (ofZ w64 (c .args .amount)))) (c .args .weights .now) (c .loop-i .i + 1))
 here c =
     let ws = c .args .weights .now in
     let i = c .loop-i .i in
@@ -36,7 +36,7 @@ here c =
 
 pub step-requires : need.step-requires
 step-requires c κs =
-    let f = toZ w64 (ofZ w64 (c .args .f)) in
+    let f = toZ w64 (ofZ w64 (c .args .amount)) in
     let ws = c .args .weights .now in
     let m = natAbs f in
     let some = c .pre .0 .within .some in
@@ -46,7 +46,7 @@ pub loop-i-again : need.loop-i-again
 loop-i-again c =
     let ws = c .args .weights .now in
     let i = c .loop-i .i in
-    let f = toZ w64 (ofZ w64 (c .args .f)) in
+    let f = toZ w64 (ofZ w64 (c .args .amount)) in
     let so = here (need.at·loop-i-again c .After-portion-reached) in
     let share : toZ w64 (ofZ w64 (c .step .result)) ≡ running-at f ws i = grind (arith, toZ-ofZ) in
     (rw share (fill-by-more (running-at f ws) (c .loop-i .shares) i (pos 0) (omega arith) (c .loop-i .inv .0)), so .0, so .1)
@@ -54,9 +54,9 @@ loop-i-again c =
 pub returns : need.returns
 unfolding running
 returns c =
-    let f = c .args .f in
+    let f = c .args .amount in
     let ws = c .args .weights .now in
-    let fits = c .fits .f in
+    let fits = c .fits .amount in
     let done : c .loop-i .shares ≡ running f ws = written running-at (toZ w64 (ofZ w64 f)) f ws (c .loop-i .shares) (c .loop-i .i) (toZ-ofZ w64 f fits) (c .loop-i-test .left) (omega arith) (c .loop-i .inv .0) in
     let within : Within f ws = c .pre .0 .within in
-    record { shares = done; rest = sym (running-exact f ws within); law = subst (RunningShares f ws) (sym done) (running-law f ws within) }
+    record { shares = done; rest = running-exact f ws within; law = subst (RunningShares f ws) (sym done) (running-law f ws within) }

@@ -1,4 +1,3 @@
-use borrow.Author.Needs.{needs}
 use mathlib.Core.Path.{_≡_}
 use native.Mathlib.Omega.{arith}
 use Prim.Native.Nat.{_≤_}
@@ -9,7 +8,7 @@ use Rattle.std.proofs.shelf.Signed.{toZ-ofZ}
 use Rattle.rounding.specs.Nearest.{half-up, nearest}
 use Rattle.rounding.proofs.HalfUp.{half-up-le}
 use Rattle.rounding.proofs.Law.{rounded}
-use Rattle.rounding.proofs.halves.nearest_above_zero.Needs as need
+use Rattle.rounding.proofs.halves.nearest_quotient.Needs as need
 
 pub unwrap-requires : need.unwrap-requires
 unwrap-requires c κs =
