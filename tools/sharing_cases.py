@@ -98,7 +98,7 @@ def cases():
     yield 4, 100, [1, 1, 1]
     yield 2, 100, [1, 1, 1]
     yield 0, 100, [1, 1, 1]
-    # as many bearers as a list can have
+    # many weights
     yield 128, 1000, [1] * 128
     yield 128, -12345, list(range(128))
     rng = random.Random(20261117)

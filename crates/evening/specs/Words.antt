@@ -1,26 +1,62 @@
--- The numbers that the words of the command line write, and when they are a task.
+-- What the words of the command line ask for, and why they are refused. A word is the list of its bytes.
 use mathlib.Core.Path.{_≡_}
 use mathlib.Core.List.{List, []}
-use Prim.Native.Nat.{ℕ, _+_, _^_, _<_}
-use lib.ListN.{length, getD}
+use Prim.Native.Nat.{ℕ, _^_, _<_}
+use lib.ListN.{length, getD, drop}
 use lib.IntN.{ℤ}
 use mir.Syntax.{w64}
 use mir.Val.{SFits}
-use Rattle.std.specs.declared.option.Option.{Option}
-use Rattle.std.specs.declared.option.Option.the-variants.{Some}
-use Rattle.std.specs.Numbers.{Checked}
 use Rattle.std.specs.Reads.{Numeral, afterPlus, afterSign, signedValue, value}
+use Rattle.sharing.specs.Beyond.{Beyond}
+use Rattle.evening.specs.declared.reading.TaskFault.{TaskFault}
+use Rattle.evening.specs.declared.reading.TaskFault.the-variants.{NoAmount, AmountNoNumber, WeightNoNumber, Bounds, Memory}
 
--- an amount: an optional sign and decimal digits, of 64 bits
-abbrev pub Amount : List ℕ → Option ℤ → Type 0
-Amount word r = Checked r (Numeral 10 (afterSign word) × SFits w64 (signedValue 10 word)) (signedValue 10 word)
+-- an amount is an optional sign and decimal digits, and fits 64 bits
+abbrev pub IsAmount : List ℕ → Type 0
+IsAmount word = Numeral 10 (afterSign word) × SFits w64 (signedValue 10 word)
 
--- a weight: an optional plus and decimal digits, of 32 bits
-abbrev pub Weight : List ℕ → Option ℕ → Type 0
-Weight word r = Checked r (Numeral 10 (afterPlus word) × (value 10 (afterPlus word) < 2 ^ 32)) (value 10 (afterPlus word))
+abbrev pub amount-of : List ℕ → ℤ
+amount-of word = signedValue 10 word
 
--- what the words after the program's name ask for: to share the amount of the first over the weights of the others
+-- a weight is an optional plus and decimal digits, and fits 32 bits
+abbrev pub IsWeight : List ℕ → Type 0
+IsWeight word = Numeral 10 (afterPlus word) × (value 10 (afterPlus word) < 2 ^ 32)
+
+abbrev pub weight-of : List ℕ → ℕ
+weight-of word = value 10 (afterPlus word)
+
+abbrev pub word-at : List (List ℕ) → ℕ → List ℕ
+word-at words i = getD words i []
+
+-- the words are weights, and these
+pub record Weighed (words : List (List ℕ)) (ws : List ℕ) : Type 0 where
+  pub count : length ws ≡ length words
+  pub each : (i : ℕ) → i < length words → IsWeight (word-at words i) × (getD ws i 0 ≡ weight-of (word-at words i))
+
+-- the word at place i is the first that is no weight
+pub record FirstWrong (words : List (List ℕ)) (i : ℕ) : Type 0 where
+  pub within : i < length words
+  pub before : (k : ℕ) → k < i → IsWeight (word-at words k)
+  pub wrong : IsWeight (word-at words i) → ⊥
+
+-- why words are no weights: the first that is none, or want of memory
+abbrev pub Unweighed : List (List ℕ) → TaskFault → Type 0
+Unweighed words NoAmount = ⊥
+Unweighed words AmountNoNumber = ⊥
+Unweighed words (WeightNoNumber i) = FirstWrong words i
+Unweighed words (Bounds e) = ⊥
+Unweighed words Memory = Unit {0}
+
+-- the words ask to share the amount f over the weights ws: the first word is the amount, and the others the weights
 pub record Asked (words : List (List ℕ)) (f : ℤ) (ws : List ℕ) : Type 0 where
-  pub count : length words ≡ length ws + 1
-  pub first : Amount (getD words 0 []) (Some f)
-  pub others : (i : ℕ) → i < length ws → Weight (getD words (i + 1) []) (Some (getD ws i 0))
+  pub some : 0 < length words
+  pub amount : IsAmount (word-at words 0) × (f ≡ amount-of (word-at words 0))
+  pub weights : Weighed (drop 1 words) ws
+
+-- why words are refused: judged in the order of these lines, whatever memory there is
+abbrev pub Refuses : List (List ℕ) → TaskFault → Type 0
+Refuses words NoAmount = length words ≡ 0
+Refuses words AmountNoNumber = (0 < length words) × (IsAmount (word-at words 0) → ⊥)
+Refuses words (WeightNoNumber i) = IsAmount (word-at words 0) × FirstWrong (drop 1 words) i
+Refuses words (Bounds e) = (f : ℤ) × (ws : List ℕ) × Asked words f ws × Beyond f ws e
+Refuses words Memory = Unit {0}

@@ -1,4 +1,5 @@
-// The evening run. For now it shares an amount of cents over weights by each of the three sharing rules.
+// The evening run: the program that a settlement analyst starts each evening, before the operator's statement is there.
+// For now it shares an amount of cents over weights by each of the three sharing rules.
 mod lines;
 mod reading;
 mod sharing_out;
@@ -7,67 +8,57 @@ mod words;
 
 use lines::SharesDisplay;
 use lines::TaskDisplay;
-use lines::TaskFaultDisplay;
-use reading::TaskFault;
-use reading::TaskFaultDebug;
+use lines::Usage;
+use lines::UsageDisplay;
 use sharing::LargestRemainderRule;
 use sharing::LargestSharing;
 use sharing::RateRule;
 use sharing::RateSharing;
 use sharing::RunningRule;
 use sharing::RunningSharing;
-use sharing::SharingRule;
 use sharing_out::shared;
 use std::env;
 use std::error::AnyError;
 use std::io;
 use task::Task;
 
-// A line with the shares of the task by one rule.
-fn print_shares<R: SharingRule>(
-    rt: &LibcRuntime,
-    name: &str,
-    rule: &R,
-    task: &Task,
-) -> io::Result<()> {
-    let shares = shared(rt.alloc(), rule, task)?;
-    println!(rt, "{name}: {shares}")
-}
-
-// The task, and a line for each rule.
+// The task, and a line for each rule. Nothing is printed before all shares are there.
 fn share_by_all(rt: &LibcRuntime, task: &Task) -> io::Result<()> {
+    let rate = shared(rt.alloc(), &RateRule, task)?;
+    let largest = shared(rt.alloc(), &LargestRemainderRule, task)?;
+    let running = shared(rt.alloc(), &RunningRule, task)?;
     println!(rt, "{task}")?;
-    print_shares(rt, "rate", &RateRule, task)?;
-    print_shares(rt, "largest-remainder", &LargestRemainderRule, task)?;
-    print_shares(rt, "running", &RunningRule, task)
+    println!(rt, "rate: {rate}")?;
+    println!(rt, "largest-remainder: {largest}")?;
+    println!(rt, "running: {running}")
 }
 
-// Says why the words are no task, with the word that is no number.
-fn explain(rt: &LibcRuntime, words: &[String], fault: &TaskFault) -> io::Result<()> {
-    if let TaskFault::NoNumber(n) = fault {
-        if let Some(word) = words.get(n.saturating_sub(1)) {
-            return eprintln!(rt, "evening: '{word}': {fault}");
-        }
+// Whether the words ask for the usage.
+fn asks_usage(words: &[String]) -> bool {
+    match words {
+        [only] => only.as_str() == "--help",
+        _ => false,
     }
-    eprintln!(rt, "evening: {fault}")
+}
+
+fn run(rt: &LibcRuntime) -> Result<(), AnyError> {
+    let heap = rt.alloc();
+    let words: Vec<String> = env::args(rt)?.skip(1).collect(heap)?;
+    if asks_usage(words.as_slice()) {
+        rt.println(Usage)?;
+        return Ok(());
+    }
+    match reading::read(heap, words.as_slice()) {
+        Ok(task) => share_by_all(rt, &task)?,
+        Err(fault) => return Err(lines::message(heap, words.as_slice(), &fault)?.into()),
+    }
+    Ok(())
 }
 
 fn main(rt: LibcRuntime) -> Result<(), AnyError> {
-    let heap = rt.alloc();
-    let words: Vec<String> = env::args(&rt)?.skip(1).collect(heap)?;
-    match words.as_slice() {
-        [only] if only.as_str() == "--help" => {
-            rt.println(lines::USAGE)?;
-            return Ok(());
-        }
-        _ => {}
+    let done = run(&rt);
+    if let Err(error) = &done {
+        eprintln!(rt, "evening: {error}")?;
     }
-    match reading::read(heap, words.as_slice()) {
-        Ok(task) => share_by_all(&rt, &task)?,
-        Err(fault) => {
-            explain(&rt, words.as_slice(), &fault)?;
-            return Err("no task".into());
-        }
-    }
-    Ok(())
+    done
 }

@@ -11,7 +11,7 @@ use std::alloc::Global;
 // The share of each weight, and the rest of the amount.
 #[derive(Drop)]
 pub(super) struct Shares {
-    pub(super) cents: Vec<i64>,
+    pub(super) shares: Vec<i64>,
     pub(super) rest: i64,
 }
 
@@ -21,10 +21,10 @@ pub(super) fn shared<R: SharingRule>(
     rule: &R,
     task: &Task,
 ) -> Result<Shares, AllocError>
-    ensures cents { λ r. ⌜ made r (λ s. vec-items (s .cents) ≡ R·SharingRule .meaning (now (rule .entry)) (now (task .entry) .cents) (vec-items (now (task .entry) .weights))) ⌝ }
-    ensures rest { λ r. ⌜ made r (λ s. s .rest ≡ rest-of (now (task .entry) .cents) (R·SharingRule .meaning (now (rule .entry)) (now (task .entry) .cents) (vec-items (now (task .entry) .weights)))) ⌝ }
+    ensures shares { λ r. ⌜ made r (λ s. vec-items (s .shares) ≡ R·SharingRule .meaning (now (rule .entry)) (now (task .entry) .amount) (vec-items (now (task .entry) .weights))) ⌝ }
+    ensures rest { λ r. ⌜ made r (λ s. s .rest ≡ rest-of (now (task .entry) .amount) (R·SharingRule .meaning (now (rule .entry)) (now (task .entry) .amount) (vec-items (now (task .entry) .weights)))) ⌝ }
 {
-    let mut cents = vec![in heap; 0; task.weights.len()]?;
-    let rest = rule.share(task.cents, task.weights.as_slice(), cents.as_mut_slice());
-    Ok(Shares { cents, rest })
+    let mut shares = vec![in heap; 0; task.weights.len()]?;
+    let rest = rule.share(task.amount, task.weights.as_slice(), shares.as_mut_slice());
+    Ok(Shares { shares, rest })
 }

@@ -8,10 +8,10 @@ ghost use Rattle.std.specs.shelf.Lists.{sum};
 // It lies inside the bounds of the sharing rules, so that every rule shares it.
 #[derive(Drop)]
 pub(super) struct Task {
-    pub(super) cents: i64,
+    pub(super) amount: i64,
     pub(super) weights: Vec<u32>,
     pub(super) total: u64,
-    ghost small: { natAbs cents ≤ 1000000000 },
+    ghost small: { natAbs amount ≤ 1000000000 },
     ghost some: { 0 < total },
     ghost most: { total ≤ 4000000000 },
     ghost all: { total ≡ sum (vec-items weights) },

@@ -11,6 +11,7 @@ use sharing::RunningExact;
 use sharing::RunningRule;
 use sharing::RunningSharing;
 use sharing::SharingRule;
+use std::alloc::Global;
 use std::error::AnyError;
 
 // One case of the test.
@@ -21,7 +22,7 @@ struct Case {
     weights: Vec<u32>,
 }
 
-fn read(heap: std::alloc::Global, line: &str) -> Result<Case, AnyError> {
+fn read(heap: Global, line: &str) -> Result<Case, AnyError> {
     let mut words = line.split_whitespace();
     let cells = words.next().ok_or("no number of cells")?.parse::<usize>()?;
     let amount = words.next().ok_or("no amount")?.parse::<i64>()?;
@@ -36,28 +37,34 @@ fn read(heap: std::alloc::Global, line: &str) -> Result<Case, AnyError> {
     })
 }
 
-fn print_share<R: SharingRule>(
-    rt: &LibcRuntime,
-    name: &str,
-    rule: &R,
-    case: &Case,
-) -> Result<(), AnyError> {
-    let mut table = vec![in rt.alloc(); 777i64; case.cells]?;
-    let rest = rule.share(case.amount, case.weights.as_slice(), table.as_mut_slice());
-    println!(rt, "{name}: {table:?} rest {rest}")?;
+// What stands in every cell of a share table before a use.
+const BEFORE: i64 = 777;
+
+fn print_use(rt: &LibcRuntime, name: &str, table: &Vec<i64>, answer: i64) -> Result<(), AnyError> {
+    println!(rt, "{name}: {table:?} rest {answer}")?;
     Ok(())
 }
 
-fn print_exact<R: ExactRule>(
+fn share<R: SharingRule>(
     rt: &LibcRuntime,
     name: &str,
     rule: &R,
     case: &Case,
 ) -> Result<(), AnyError> {
-    let mut table = vec![in rt.alloc(); 777i64; case.cells]?;
-    let rest = rule.share_exactly(case.amount, case.weights.as_slice(), table.as_mut_slice());
-    println!(rt, "{name}: {table:?} rest {rest}")?;
-    Ok(())
+    let mut table = vec![in rt.alloc(); BEFORE; case.cells]?;
+    let answer = rule.share(case.amount, case.weights.as_slice(), table.as_mut_slice());
+    print_use(rt, name, &table, answer)
+}
+
+fn share_exactly<R: ExactRule>(
+    rt: &LibcRuntime,
+    name: &str,
+    rule: &R,
+    case: &Case,
+) -> Result<(), AnyError> {
+    let mut table = vec![in rt.alloc(); BEFORE; case.cells]?;
+    let answer = rule.share_exactly(case.amount, case.weights.as_slice(), table.as_mut_slice());
+    print_use(rt, name, &table, answer)
 }
 
 fn run(rt: &LibcRuntime) -> Result<(), AnyError> {
@@ -65,16 +72,16 @@ fn run(rt: &LibcRuntime) -> Result<(), AnyError> {
         let case = read(rt.alloc(), line?.as_str())?;
         let amount = case.amount;
         println!(rt, "{amount} into {} over {:?}", case.cells, case.weights)?;
-        print_share(rt, "rate", &RateRule, &case)?;
-        print_share(rt, "largest-remainder", &LargestRemainderRule, &case)?;
-        print_exact(
+        share(rt, "rate", &RateRule, &case)?;
+        share(rt, "largest-remainder", &LargestRemainderRule, &case)?;
+        share_exactly(
             rt,
             "largest-remainder exactly",
             &LargestRemainderRule,
             &case,
         )?;
-        print_share(rt, "running", &RunningRule, &case)?;
-        print_exact(rt, "running exactly", &RunningRule, &case)?;
+        share(rt, "running", &RunningRule, &case)?;
+        share_exactly(rt, "running exactly", &RunningRule, &case)?;
     }
     Ok(())
 }

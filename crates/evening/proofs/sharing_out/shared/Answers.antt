@@ -1,13 +1,11 @@
 use borrow.Author.Needs.{needs}
-use mathlib.Core.Path.{_≡_, sym, ap, subst, _∙_}
+use mathlib.Core.Path.{_≡_, subst, _∙_}
 use mathlib.Core.List.{_++_}
 use native.Mathlib.Omega.{arith}
-use Prim.Native.Nat.{_≤_, _<_}
 use lib.ListN.{length, take, drop}
 use mir.Syntax.{w64}
-use mir.Val.{toZ, ofZ, SFits}
-use Rattle.std.specs.Of.Vec.{vec-items, vec-len}
-use Rattle.std.specs.shelf.Lists.{sum}
+use mir.Val.{SFits}
+use Rattle.std.specs.Of.Vec.{vec-items}
 use Rattle.std.proofs.shelf.Lists.{take-all, take-append-le}
 use Rattle.std.proofs.shelf.Signed.{toZ-ofZ}
 use Rattle.sharing.specs.Sharing.{Within, Ready, Shared}
@@ -16,10 +14,10 @@ use Rattle.evening.proofs.sharing_out.shared.Needs as need
 pub returns : need.returns
 returns g c =
     let task = c .args .task .now in
-    let f = task .cents in
+    let f = task .amount in
     let ws = vec-items (task .weights) in
-    let table = c .in-Continue-cents .cents in
-    let made = c .in-Continue-cents .ensures tt .made .1 in
+    let table = c .in-Continue-shares .shares in
+    let made = c .in-Continue-shares .ensures tt .made .1 in
     let weights = task .weights .ok .0 in
     let cells : length (c .as-mut-slice .result .now) ≡ length ws = omega arith in
     let fits : SFits w64 f = search needs in
@@ -32,4 +30,4 @@ returns g c =
     let all : take (table .len) (c .share-rest .last .shares ++ drop (length (c .share-rest .last .shares)) (table .items)) ≡ c .share-rest .last .shares =
     take-append-le (table .len) (c .share-rest .last .shares) _ (omega arith) ∙ take-all (table .len) (c .share-rest .last .shares) (omega arith) in
     let answer : SFits w64 (c .share-rest .result) = search needs in
-    record { cents = all ∙ shared .writes ready; rest = toZ-ofZ w64 (c .share-rest .result) answer ∙ shared .leaves ready }
+    record { shares = all ∙ shared .writes ready; rest = toZ-ofZ w64 (c .share-rest .result) answer ∙ shared .leaves ready }
