@@ -33,6 +33,10 @@ length-by-place s ws = length-map-counting s 0 (length ws)
 pub by-place-at : (s : ℕ → ℤ) (ws : List ℕ) (i : ℕ) → i < length ws → share-at (by-place s ws) i ≡ s i
 by-place-at s ws i h = getD-map-counting s 0 (length ws) i i (pos 0) h (zero-add i)
 
+-- the only list with these shares
+pub by-place-is : (s : ℕ → ℤ) (ws : List ℕ) (ss : List ℤ) → length ss ≡ length ws → ((i : ℕ) → i < length ws → share-at ss i ≡ s i) → ss ≡ by-place s ws
+by-place-is s ws ss long each = fill-by-all s ss (length ws) (pos 0) long each
+
 -- shares that add up to f leave nothing of it
 pub no-rest : (f : ℤ) (ss : List ℤ) → added ss ≡ f → rest-of f ss ≡ pos 0
 unfolding rest-of
@@ -47,7 +51,7 @@ one-cent f ws s each = record {
 -- a loop that writes share after share has written them all at its end; f may stand there as a cast to its bits and back, f′
 pub written : (s : ℤ → List ℕ → ℕ → ℤ) (f′ f : ℤ) (ws : List ℕ) (ss : List ℤ) (i : ℕ) → f′ ≡ f → length ws ≤ i → length ss ≡ length ws → ((k : ℕ) → k < i → getD ss k (pos 0) ≡ s f′ ws k) → ss ≡ by-place (s f ws) ws
 written s f′ f ws ss i same end long each =
-    fill-by-all (s f ws) ss (length ws) (pos 0) long (λ k h. each k (omega arith) ∙ ap (λ z. s z ws k) same)
+    by-place-is (s f ws) ws ss long (λ k h. each k (omega arith) ∙ ap (λ z. s z ws k) same)
 
 module _ (f : ℤ) (c : ℕ → ℕ) where
   -- cents with the sign of f add up to their sum with that sign

@@ -18,11 +18,12 @@ use Rattle.std.proofs.shelf.Tests.{and-parts, both-ways, cases-bool, cases-eq, 
 use Rattle.std.proofs.shelf.Ways.{tells}
 use Rattle.rounding.specs.Nearest.{signed}
 use Rattle.rounding.proofs.Signs.{natAbs-signed}
-use Rattle.sharing.specs.Sharing.{Within, OneCent, rest-of, share-at}
+use Rattle.sharing.specs.Sharing.{Within, OneCent, Unique, rest-of, share-at}
 use Rattle.sharing.specs.Places.{upto, one-if}
 use Rattle.sharing.specs.LargestRemainder.{whole, left, spare, ahead, rank, gets, largest-cents, largest-at, largest, LargestFirst}
 use Rattle.sharing.proofs.ByPlace.{Near, by-place-at, exact, length-by-place, no-rest, signed-cent}
 use Rattle.sharing.proofs.Upto.{upto-le, upto-add, upto-mul, upto-same, upto-ones}
+use Rattle.sharing.proofs.LargestOnly.{largest-only}
 use Rattle.sharing.proofs.Ranks.{rank-up, ranks-below}
 
 -- a factor above 0 cancels
@@ -151,9 +152,9 @@ module _ (f : ℤ) (ws : List ℕ) (w : Within f ws) where
       let cents = same-size f (largest-cents (natAbs f) ws i) (whole (natAbs f) ws i + c) (sym (by-place-at (largest-at f ws) ws i h) ∙ e) in
       omega arith
 
-  pub largest-law : LargestFirst f ws (largest f ws)
+  keeps : LargestFirst f ws (largest f ws)
   unfolding largest
-  largest-law = record {
+  keeps = record {
     long = length-by-place (largest-at f ws) ws;
     each = λ i h. ⊎-elim
         (λ yes-i. inr (by-place-at (largest-at f ws) ws i h ∙ ap (λ b. signed f (whole (natAbs f) ws i + one-if b)) yes-i))
@@ -166,3 +167,6 @@ module _ (f : ℤ) (ws : List ℕ) (w : Within f ws) where
         let no-j : gets (natAbs f) ws j ≡ false = ⊎-elim (λ y. absurd (omega (arith, extra j 0 none-j l, ap one-if y))) (λ n. n) (cases-bool (gets (natAbs f) ws j)) in
         first-by-rank (natAbs f) ws (w .some) i j l yes-i no-j;
   }
+
+  pub largest-law : Unique (LargestFirst f ws) (largest f ws)
+  largest-law = record { keeps = keeps; only = λ ts law. largest-only f ws (largest f ws) ts keeps law }

@@ -38,6 +38,11 @@ pub record OneCent (f : ℤ) (ws : List ℕ) (ss : List ℤ) : Type 0 where
   pub long : length ss ≡ length ws
   pub near : (i : ℕ) → i < length ws → natAbs (share-at ss i *ℤ pos (sum ws) -ℤ f *ℤ pos (getD ws i 0)) < sum ws
 
+-- ss keeps a law of shares, and is the only list that does
+pub record Unique (law : List ℤ → Type 0) (ss : List ℤ) : Type 0 where
+  pub keeps : law ss
+  pub only : (ts : List ℤ) → law ts → ts ≡ ss
+
 -- one use of a rule that means m, with a share table that held `before` and now holds `after`: inside the bounds it
 -- writes the shares and answers the rest; otherwise it writes nothing and answers f
 pub record Shared (m : ℤ → List ℕ → List ℤ) (f : ℤ) (ws : List ℕ) (before after : List ℤ) (answer : ℤ) : Type 0 where

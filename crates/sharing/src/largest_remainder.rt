@@ -3,7 +3,7 @@ ghost use mathlib.Core.Path.{_≡_};
 ghost use lib.ListN.{length};
 ghost use lib.IntN.{pos};
 ghost use Rattle.std.specs.shelf.Lists.{sum};
-ghost use Rattle.sharing.specs.Sharing.{Ready, Shared, rest-of};
+ghost use Rattle.sharing.specs.Sharing.{Ready, Unique, Shared, rest-of};
 ghost use Rattle.sharing.specs.LargestRemainder.{largest, LargestFirst};
 use crate::bounds::ready;
 use crate::division::Division;
@@ -20,7 +20,7 @@ fn share_by_remainder(amount: i64, weights: &[u32], total: u64, shares: &mut [i6
     requires { ⌜ Ready amount (now weights) (length (now shares)) ⌝ ∗ ⌜ total ≡ sum (now weights) ⌝ }
     ensures shares { λ _. ⌜ now (shares .exit) ≡ largest amount (now (weights .entry)) ⌝ }
     ensures rest { λ _. ⌜ rest-of amount (largest amount (now (weights .entry))) ≡ pos 0 ⌝ }
-    ensures law { λ _. ⌜ LargestFirst amount (now (weights .entry)) (now (shares .exit)) ⌝ }
+    ensures law { λ _. ⌜ Unique (LargestFirst amount (now (weights .entry))) (now (shares .exit)) ⌝ }
 {
     let division = Division {
         size: amount.unsigned_abs(),
@@ -38,7 +38,7 @@ pub impl SharingRule for LargestRemainderRule as LargestSharing {
 
     fn share(&self, amount: i64, weights: &[u32], shares: &mut [i64]) -> i64
         ensures rule { λ r. ⌜ Shared largest amount (now (weights .entry)) (now (shares .entry)) (now (shares .exit)) r ⌝ }
-        ensures law { λ _. ⌜ (Ready amount (now (weights .entry)) (length (now (shares .entry))) → LargestFirst amount (now (weights .entry)) (now (shares .exit))) ⌝ }
+        ensures law { λ _. ⌜ (Ready amount (now (weights .entry)) (length (now (shares .entry))) → Unique (LargestFirst amount (now (weights .entry))) (now (shares .exit))) ⌝ }
     {
         match ready(amount, weights, shares.len()) {
             Some(total) => {

@@ -5,7 +5,7 @@ ghost use lib.ListN.{length};
 ghost use lib.IntN.{pos, natAbs, _*ℤ_};
 ghost use Rattle.std.specs.shelf.Lists.{sum};
 ghost use Rattle.rounding.specs.Nearest.{nearest};
-ghost use Rattle.sharing.specs.Sharing.{Ready, Shared, rest-of};
+ghost use Rattle.sharing.specs.Sharing.{Ready, Unique, Shared, rest-of};
 ghost use Rattle.sharing.specs.Rate.{rate, NearestShares};
 use crate::bounds::ready;
 use crate::rule::SharingRule;
@@ -30,7 +30,7 @@ fn share_by_rate(amount: i64, weights: &[u32], total: u64, shares: &mut [i64]) -
     requires { ⌜ Ready amount (now weights) (length (now shares)) ⌝ ∗ ⌜ total ≡ sum (now weights) ⌝ }
     ensures shares { λ _. ⌜ now (shares .exit) ≡ rate amount (now (weights .entry)) ⌝ }
     ensures rest { λ r. ⌜ r ≡ rest-of amount (rate amount (now (weights .entry))) ⌝ }
-    ensures law { λ _. ⌜ NearestShares amount (now (weights .entry)) (now (shares .exit)) ⌝ }
+    ensures law { λ _. ⌜ Unique (NearestShares amount (now (weights .entry))) (now (shares .exit)) ⌝ }
 {
     let mut rest = amount;
     for (i, w) in weights.iter().enumerate() {
@@ -46,7 +46,7 @@ pub impl SharingRule for RateRule as RateSharing {
 
     fn share(&self, amount: i64, weights: &[u32], shares: &mut [i64]) -> i64
         ensures rule { λ r. ⌜ Shared rate amount (now (weights .entry)) (now (shares .entry)) (now (shares .exit)) r ⌝ }
-        ensures law { λ _. ⌜ (Ready amount (now (weights .entry)) (length (now (shares .entry))) → NearestShares amount (now (weights .entry)) (now (shares .exit))) ⌝ }
+        ensures law { λ _. ⌜ (Ready amount (now (weights .entry)) (length (now (shares .entry))) → Unique (NearestShares amount (now (weights .entry))) (now (shares .exit))) ⌝ }
     {
         match ready(amount, weights, shares.len()) {
             Some(total) => share_by_rate(amount, weights, total, shares),

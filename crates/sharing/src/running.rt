@@ -5,7 +5,7 @@ ghost use lib.ListN.{length};
 ghost use lib.IntN.{pos, natAbs};
 ghost use Rattle.std.specs.shelf.Lists.{sum};
 ghost use Rattle.rounding.specs.Nearest.{signed};
-ghost use Rattle.sharing.specs.Sharing.{Ready, Shared, rest-of};
+ghost use Rattle.sharing.specs.Sharing.{Ready, Unique, Shared, rest-of};
 ghost use Rattle.sharing.specs.Running.{running, RunningShares};
 use crate::bounds::ready;
 use crate::division::Division;
@@ -30,7 +30,7 @@ fn share_by_running(amount: i64, weights: &[u32], total: u64, shares: &mut [i64]
     requires { ⌜ Ready amount (now weights) (length (now shares)) ⌝ ∗ ⌜ total ≡ sum (now weights) ⌝ }
     ensures shares { λ _. ⌜ now (shares .exit) ≡ running amount (now (weights .entry)) ⌝ }
     ensures rest { λ _. ⌜ rest-of amount (running amount (now (weights .entry))) ≡ pos 0 ⌝ }
-    ensures law { λ _. ⌜ RunningShares amount (now (weights .entry)) (now (shares .exit)) ⌝ }
+    ensures law { λ _. ⌜ Unique (RunningShares amount (now (weights .entry))) (now (shares .exit)) ⌝ }
 {
     let division = Division {
         size: amount.unsigned_abs(),
@@ -52,7 +52,7 @@ pub impl SharingRule for RunningRule as RunningSharing {
 
     fn share(&self, amount: i64, weights: &[u32], shares: &mut [i64]) -> i64
         ensures rule { λ r. ⌜ Shared running amount (now (weights .entry)) (now (shares .entry)) (now (shares .exit)) r ⌝ }
-        ensures law { λ _. ⌜ (Ready amount (now (weights .entry)) (length (now (shares .entry))) → RunningShares amount (now (weights .entry)) (now (shares .exit))) ⌝ }
+        ensures law { λ _. ⌜ (Ready amount (now (weights .entry)) (length (now (shares .entry))) → Unique (RunningShares amount (now (weights .entry))) (now (shares .exit))) ⌝ }
     {
         match ready(amount, weights, shares.len()) {
             Some(total) => {

@@ -8,7 +8,7 @@ use lib.IntN.{pos, natAbs}
 use Rattle.std.proofs.shelf.Edits.{fill-by-more}
 use Rattle.std.proofs.shelf.Signed.{toZ-ofZ}
 use Rattle.rounding.specs.Nearest.{signed}
-use Rattle.sharing.specs.Sharing.{Within}
+use Rattle.sharing.specs.Sharing.{Unique, Within}
 use Rattle.sharing.specs.LargestRemainder.{largest, largest-at, largest-cents, LargestFirst}
 use Rattle.sharing.proofs.ByPlace.{written}
 use Rattle.sharing.proofs.Upto.{upto-part}
@@ -46,4 +46,4 @@ returns c =
     let fits = c .fits .amount in
     let done : c .loop-i .shares ≡ largest f ws = written largest-at (toZ w64 (ofZ w64 f)) f ws (c .loop-i .shares) (c .loop-i .i) (toZ-ofZ w64 f fits) (c .loop-i-test .left) (omega arith) (c .loop-i .inv) in
     let within : Within f ws = c .pre .0 .within in
-    record { shares = done; rest = largest-exact f ws within; law = subst (LargestFirst f ws) (sym done) (largest-law f ws within) }
+    record { shares = done; rest = largest-exact f ws within; law = subst (Unique (LargestFirst f ws)) (sym done) (largest-law f ws within) }

@@ -7,7 +7,7 @@ use lib.IntN.{pos}
 use Rattle.std.proofs.shelf.Edits.{fill-by-more}
 use Rattle.std.proofs.shelf.Signed.{ints, toZ-ofZ}
 use Rattle.std.proofs.shelf.Sums.{sumBy-more, sumBy-take-le}
-use Rattle.sharing.specs.Sharing.{Within, rest-of}
+use Rattle.sharing.specs.Sharing.{Unique, Within, rest-of}
 use Rattle.sharing.specs.Rate.{rate, rate-at, NearestShares}
 use Rattle.sharing.proofs.ByPlace.{added-to-more, written}
 use Rattle.sharing.proofs.RateLaw.{rate-law}
@@ -42,4 +42,4 @@ returns c =
     let end : c .loop-i .i ≡ length ws = omega arith in
     let done : c .loop-i .shares ≡ rate f ws = written rate-at (toZ w64 (ofZ w64 f)) f ws (c .loop-i .shares) (c .loop-i .i) (toZ-ofZ w64 f fits) (c .loop-i-test .left) (omega arith) (c .loop-i .inv .0) in
     let within : Within f ws = c .pre .0 .within in
-    record { shares = done; rest = simp (toZ-ofZ, end) at (c .loop-i .inv .1); law = subst (NearestShares f ws) (sym done) (rate-law f ws within) }
+    record { shares = done; rest = simp (toZ-ofZ, end) at (c .loop-i .inv .1); law = subst (Unique (NearestShares f ws)) (sym done) (rate-law f ws within) }

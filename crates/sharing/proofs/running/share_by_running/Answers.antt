@@ -9,7 +9,7 @@ use Rattle.std.specs.shelf.Lists.{sum}
 use Rattle.std.proofs.shelf.Edits.{fill-by-more}
 use Rattle.std.proofs.shelf.Signed.{ints, toZ-ofZ}
 use Rattle.std.proofs.shelf.Sums.{sumBy-more, sumBy-take-le}
-use Rattle.sharing.specs.Sharing.{Within}
+use Rattle.sharing.specs.Sharing.{Unique, Within}
 use Rattle.sharing.specs.Running.{running, running-at, running-cents, reached, RunningShares}
 use Rattle.sharing.proofs.ByPlace.{written}
 use Rattle.sharing.proofs.Upto.{upto-part}
@@ -59,4 +59,4 @@ returns c =
     let fits = c .fits .amount in
     let done : c .loop-i .shares ≡ running f ws = written running-at (toZ w64 (ofZ w64 f)) f ws (c .loop-i .shares) (c .loop-i .i) (toZ-ofZ w64 f fits) (c .loop-i-test .left) (omega arith) (c .loop-i .inv .0) in
     let within : Within f ws = c .pre .0 .within in
-    record { shares = done; rest = running-exact f ws within; law = subst (RunningShares f ws) (sym done) (running-law f ws within) }
+    record { shares = done; rest = running-exact f ws within; law = subst (Unique (RunningShares f ws)) (sym done) (running-law f ws within) }
