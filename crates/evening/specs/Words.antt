@@ -15,6 +15,7 @@ use Rattle.evening.specs.declared.reading.TaskFault.the-variants.{NoAmount, Am
 abbrev pub IsAmount : List ℕ → Type 0
 IsAmount word = Numeral 10 (afterSign word) × SFits w64 (signedValue 10 word)
 
+-- the number that it writes
 abbrev pub amount-of : List ℕ → ℤ
 amount-of word = signedValue 10 word
 
@@ -22,9 +23,11 @@ amount-of word = signedValue 10 word
 abbrev pub IsWeight : List ℕ → Type 0
 IsWeight word = Numeral 10 (afterPlus word) × (value 10 (afterPlus word) < 2 ^ 32)
 
+-- the number that it writes
 abbrev pub weight-of : List ℕ → ℕ
 weight-of word = value 10 (afterPlus word)
 
+-- the word at place i; past the last, one of no bytes
 abbrev pub word-at : List (List ℕ) → ℕ → List ℕ
 word-at words i = getD words i []
 
@@ -53,7 +56,7 @@ pub record Asked (words : List (List ℕ)) (f : ℤ) (ws : List ℕ) : Type 0 wh
   pub amount : IsAmount (word-at words 0) × (f ≡ amount-of (word-at words 0))
   pub weights : Weighed (drop 1 words) ws
 
--- why words are refused: judged in the order of these lines, whatever memory there is
+-- why words are refused: of the first four at most one holds of any words; want of memory may be named for any
 abbrev pub Refuses : List (List ℕ) → TaskFault → Type 0
 Refuses words NoAmount = length words ≡ 0
 Refuses words AmountNoNumber = (0 < length words) × (IsAmount (word-at words 0) → ⊥)

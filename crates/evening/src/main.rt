@@ -17,20 +17,21 @@ use sharing::RateSharing;
 use sharing::RunningRule;
 use sharing::RunningSharing;
 use sharing_out::shared;
+use std::alloc::AllocError;
+use std::alloc::Global;
 use std::env;
 use std::error::AnyError;
-use std::io;
 use task::Task;
 
-// The task, and a line for each rule. Nothing is printed before all shares are there.
-fn share_by_all(rt: &LibcRuntime, task: &Task) -> io::Result<()> {
-    let rate = shared(rt.alloc(), &RateRule, task)?;
-    let largest = shared(rt.alloc(), &LargestRemainderRule, task)?;
-    let running = shared(rt.alloc(), &RunningRule, task)?;
-    println!(rt, "{task}")?;
-    println!(rt, "rate: {rate}")?;
-    println!(rt, "largest-remainder: {largest}")?;
-    println!(rt, "running: {running}")
+// The task, and a line for each rule: one text, which is there before anything is printed.
+fn report(heap: Global, task: &Task) -> Result<String, AllocError> {
+    let rate = shared(heap, &RateRule, task)?;
+    let largest = shared(heap, &LargestRemainderRule, task)?;
+    let running = shared(heap, &RunningRule, task)?;
+    format!(
+        heap,
+        "{task}\nrate: {rate}\nlargest-remainder: {largest}\nrunning: {running}"
+    )
 }
 
 // Whether the words ask for the usage.
@@ -49,7 +50,7 @@ fn run(rt: &LibcRuntime) -> Result<(), AnyError> {
         return Ok(());
     }
     match reading::read(heap, words.as_slice()) {
-        Ok(task) => share_by_all(rt, &task)?,
+        Ok(task) => rt.println(report(heap, &task)?)?,
         Err(fault) => return Err(lines::message(heap, words.as_slice(), &fault)?.into()),
     }
     Ok(())

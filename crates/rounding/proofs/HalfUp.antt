@@ -9,7 +9,7 @@ use Rattle.rounding.specs.Nearest.{half-up, nearest}
 use Rattle.rounding.proofs.Signs.{natAbs-signed}
 
 module _ (m d : ℕ) (some : 0 < d) where
-  -- the quotient, or one more, whichever leaves less than d beyond twice the number and a half
+  -- the q that leaves less than 2 × d of 2 × m + d
   half-up-is : (q left : ℕ) → 2 * m + d ≡ q * (2 * d) + left → left < 2 * d → half-up m d ≡ q
   unfolding half-up
   half-up-is q left split small = ap (λ x. x / (2 * d)) split ∙ div-mul-add q (2 * d) left small

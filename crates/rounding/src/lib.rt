@@ -11,7 +11,7 @@ ghost use Rattle.std.specs.Options.{Cases as BySome};
 ghost use Rattle.rounding.specs.Nearest.{signed, Rounded};
 use halves::nearest_quotient;
 
-// A part of `n`: `size` with the sign of `n`; `None` where that is more than `n` itself.
+// A part of `n`: `size` with the sign of `n`; `None` where `size` is larger than that of `n`.
 pub fn with_sign(n: i64, size: u64) -> Option<i64>
     ensures { λ r. ⌜ Checked r (size ≤ natAbs n) (signed n size) ⌝ }
 {

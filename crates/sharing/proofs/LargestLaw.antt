@@ -71,7 +71,7 @@ module _ (m : ℕ) (ws : List ℕ) (some : 0 < sum ws) where
       let back : m * sum ws ≡ (spare m ws + upto (whole m ws) (length ws)) * sum ws = ap (λ x. x * sum ws) (omega (arith, wholes-le)) in
       omega (arith, split)
 
-  -- places that take up what the divisions leave are as many as the spare cents
+  -- places that take up what the divisions leave are at least as many as the spare cents
   cover : (c : ℕ → ℕ) → ((j : ℕ) → j < length ws → left m ws j ≤ c j * sum ws) → spare m ws ≤ upto c (length ws)
   cover c each =
       cancel (spare m ws) (upto c (length ws)) (sum ws) some

@@ -43,7 +43,7 @@ module _ (r : ℕ → ℕ) where
         upto-same (λ i. one-if (ltb (r i) (k + suc d))) (λ i. one-if (ltb (r i) v) + one-if (eqb (r i) v)) n (λ i h. grind (arith, tells)) in
         omega (arith, upto-add (λ i. one-if (ltb (r i) v)) (λ i. one-if (eqb (r i) v)) n, once v n apart, slide k d)
 
-    -- r takes each value below n just once
+    -- r is below k at just k places
     pub count-below : ((i : ℕ) → i < n → r i < n) → (k : ℕ) → k ≤ n → count (λ i. ltb (r i) k) n ≡ k
     count-below within k h =
         let none = count-none (λ i. ltb (r i) 0) n (λ i l. le-ltb (r i) 0 (omega arith)) in

@@ -36,6 +36,7 @@ rank m ws i = upto (λ j. one-if (ahead m ws j i)) (length ws)
 abbrev pub gets : ℕ → List ℕ → ℕ → Bool
 gets m ws i = ltb (rank m ws i) (spare m ws)
 
+-- the cents of place i, its share, and the list of all shares
 abbrev pub largest-cents : ℕ → List ℕ → ℕ → ℕ
 largest-cents m ws i = whole m ws i + one-if (gets m ws i)
 

@@ -9,6 +9,7 @@ use Rattle.rounding.specs.Nearest.{nearest, Nearest}
 use Rattle.sharing.specs.Sharing.{share-at}
 use Rattle.sharing.specs.Places.{by-place}
 
+-- the share at place i, and the list of all
 abbrev pub rate-at : ℤ → List ℕ → ℕ → ℤ
 rate-at f ws i = nearest (f *ℤ pos (getD ws i 0)) (sum ws)
 

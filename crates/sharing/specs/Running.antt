@@ -14,6 +14,7 @@ use Rattle.sharing.specs.Places.{by-place}
 abbrev pub reached : ℕ → List ℕ → ℕ → ℕ
 reached m ws i = m * sum (take i ws) / sum ws
 
+-- the cents of place i, its share, and the list of all shares
 abbrev pub running-cents : ℕ → List ℕ → ℕ → ℕ
 running-cents m ws i = reached m ws (i + 1) - reached m ws i
 
