@@ -6,6 +6,13 @@ mod sharing_out;
 mod task;
 mod words;
 
+ghost use mathlib.Core.Path.{_≡_};
+ghost use mathlib.Core.List.{map};
+ghost use lib.Chars.{codes};
+ghost use lib.ListN.{length};
+ghost use Rattle.std.specs.Of.String.{string-bytes};
+ghost use Rattle.std.specs.Orderings.{Decides};
+ghost use Rattle.evening.specs.Words.{word-at};
 use lines::SharesDisplay;
 use lines::TaskDisplay;
 use lines::Usage;
@@ -34,12 +41,11 @@ fn report(heap: Global, task: &Task) -> Result<String, AllocError> {
     )
 }
 
-// Whether the words ask for the usage.
-fn asks_usage(words: &[String]) -> bool {
-    match words {
-        [only] => only.as_str() == "--help",
-        _ => false,
-    }
+// Whether the words ask for the usage: `--help` alone.
+fn asks_usage(words: &[String]) -> bool
+    ensures { λ r. ⌜ Decides r ((length (now (words .entry)) ≡ 1) × (word-at (map string-bytes (now (words .entry))) 0 ≡ codes "--help")) ⌝ }
+{
+    words.len() == 1 && words[0].as_str() == "--help"
 }
 
 fn run(rt: &LibcRuntime) -> Result<(), AnyError> {
