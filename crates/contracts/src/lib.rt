@@ -1,0 +1,3 @@
+//! Contract tables: rows that lead on to each other, and the check that every chain of them ends.
+
+pub mod rows;

@@ -1,0 +1,3 @@
+//! Congestion credits of transmission contracts.
+
+pub mod nodes;
