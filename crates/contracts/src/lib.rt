@@ -1,3 +1,5 @@
 //! Contract tables: rows that lead on to each other, and the check that every chain of them ends.
 
+pub mod check;
+pub mod faults;
 pub mod rows;

@@ -1,0 +1,73 @@
+-- Contract rows and their chains. A row is named by its place in the table.
+use mathlib.Core.Path.{_≡_}
+use mathlib.Core.List.{List, [], _∷_}
+use mathlib.Core.Bool.{Bool, true, false}
+use Prim.Native.Nat.{ℕ, zero, suc, _<_, _≤_}
+use lib.ListN.{length, getD}
+use Rattle.std.specs.declared.option.Option.{Option}
+use Rattle.std.specs.declared.option.Option.the-variants.{Some, None}
+use Rattle.contracts.specs.declared.rows.ContractRow.{ContractRow}
+
+-- what a read past the last row gives: a row without next
+abbrev pub no-row : ContractRow
+no-row = record { party = 0; capacity = 0; receipt = 0; delivery = 0; next = None }
+
+-- the row at place i
+abbrev pub row-at : List ContractRow → ℕ → ContractRow
+row-at rows i = getD rows i no-row
+
+-- These rows, in this order, are the chain that begins at a row, or at none. It ends: its last row has no next.
+pub data Chain (rows : List ContractRow) : Option ℕ → List ℕ → Type 0 where
+  done : Chain rows None []
+  goes : {i : ℕ} {is : List ℕ} → Chain rows (row-at rows i .next) is → Chain rows (Some i) (i ∷ is)
+
+-- the chain from row i ends
+pub record Ends (rows : List ContractRow) (i : ℕ) : Type 0 where
+  pub members : List ℕ
+  pub chain : Chain rows (Some i) members
+
+-- whether none is reached within n rows
+abbrev pub reaches-none : List ContractRow → ℕ → Option ℕ → Bool
+reaches-none rows n None = true
+reaches-none rows zero (Some i) = false
+reaches-none rows (suc n) (Some i) = reaches-none rows n (row-at rows i .next)
+
+-- what is asked of a row: its capacity is within bounds,
+abbrev pub Light : List ContractRow → ContractRow → Type 0
+Light rows row = row .capacity ≤ 1000000
+
+-- its next, if it has one, is a row,
+pub record Leads (rows : List ContractRow) (row : ContractRow) : Type 0 where
+  pub in-table : (j : ℕ) → row .next ≡ Some j → j < length rows
+
+-- and begins at the node where the row ends
+pub record Meets (rows : List ContractRow) (row : ContractRow) : Type 0 where
+  pub node : (j : ℕ) → row .next ≡ Some j → row .delivery ≡ row-at rows j .receipt
+
+-- the same, asked of the row at place i
+abbrev pub LightAt : List ContractRow → ℕ → Type 0
+LightAt rows i = Light rows (row-at rows i)
+
+abbrev pub LeadsAt : List ContractRow → ℕ → Type 0
+LeadsAt rows i = Leads rows (row-at rows i)
+
+abbrev pub MeetsAt : List ContractRow → ℕ → Type 0
+MeetsAt rows i = Meets rows (row-at rows i)
+
+-- asked of every row of the table
+abbrev pub Each : (List ContractRow → ℕ → Type 0) → List ContractRow → Type 0
+Each good rows = (i : ℕ) → i < length rows → good rows i
+
+-- row i is the lowest that fails
+pub record Lowest (good : List ContractRow → ℕ → Type 0) (rows : List ContractRow) (i : ℕ) : Type 0 where
+  pub here : i < length rows
+  pub fails : good rows i → ⊥
+  pub before : (k : ℕ) → k < i → good rows k
+
+-- a table that passes the check
+pub record Sound (rows : List ContractRow) : Type 0 where
+  pub small : length rows ≤ 256
+  pub light : Each LightAt rows
+  pub leads : Each LeadsAt rows
+  pub meets : Each MeetsAt rows
+  pub ends : Each Ends rows

@@ -1,0 +1,4 @@
+pub mod Chains
+pub mod Check
+pub mod Refusals
+pub mod Walked
