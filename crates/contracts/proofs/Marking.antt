@@ -17,7 +17,7 @@ use Rattle.std.proofs.shelf.Tests.{cases-eq, cases-lt, false≢true}
 use Rattle.std.proofs.shelf.Ways.{tells}
 use Rattle.contracts.specs.declared.rows.ContractRow.{ContractRow}
 use Rattle.contracts.specs.Chains.{row-at, Chain, done, goes, Ends}
-use Rattle.contracts.specs.Walked.{Walked}
+use Rattle.contracts.specs.Walks.{Walked}
 use Rattle.contracts.proofs.Walks.{chain-one}
 
 module _ (rows : List ContractRow) where

@@ -12,6 +12,7 @@ use Rattle.std.specs.declared.option.Option.{Option}
 use Rattle.std.specs.declared.option.Option.the-variants.{Some, None}
 use Rattle.contracts.specs.declared.rows.ContractRow.{ContractRow}
 use Rattle.contracts.specs.Chains.{row-at, Chain, done, goes, Ends, Sound, reaches-none}
+use Rattle.contracts.specs.Walks.{rows-left}
 use Rattle.contracts.proofs.Walks.{Inside, row-inside, chain-short, chain-from-reached, reached-from-chain, chain-next}
 
 pub sound-empty : Sound []
@@ -51,12 +52,6 @@ sound-of rows t =
         let c = chain-from-reached rows (length rows) (Some i) (true-from-told _ e) in
         record { members = c .0; chain = c .1 }
 
--- how many rows a walk has before it, if they are at most n
-unfoldable pub rows-left : List ContractRow → ℕ → Option ℕ → ℕ
-rows-left rows n None = 0
-rows-left rows zero (Some i) = 0
-rows-left rows (suc n) (Some i) = suc (rows-left rows n (row-at rows i .next))
-
 pub rows-left-chain : (rows : List ContractRow) (n : ℕ) (o : Option ℕ) (is : List ℕ) → Chain rows o is → length is ≤ n → rows-left rows n o ≡ length is
 unfolding rows-left
 rows-left-chain rows n o is done h = refl
@@ -68,13 +63,14 @@ pub sound-inside : (rows : List ContractRow) → Sound rows → (i : ℕ) → i 
 sound-inside rows s i h = s .leads i h .in-table
 
 -- and has fewer rows before it
-pub sound-falls : (rows : List ContractRow) → Sound rows → (i : ℕ) → i < length rows → rows-left rows (length rows) (row-at rows i .next) < rows-left rows (length rows) (Some i)
-sound-falls rows s i h =
+pub sound-falls : (rows : List ContractRow) → Sound rows → (o : Option ℕ) (i : ℕ) → o ≡ Some i → i < length rows → rows-left rows (length rows) (row-at rows i .next) < rows-left rows (length rows) o
+sound-falls rows s o i here h =
     let e = s .ends i h in
     let short = chain-short rows (s .leads) (Some i) (e .members) (row-inside rows i h) (e .chain) in
     let next = chain-next rows i (e .members) (e .chain) in
     let longer = ap length (next .2) in
-    omega (arith, rows-left-chain rows (length rows) (Some i) (e .members) (e .chain) short, rows-left-chain rows (length rows) (row-at rows i .next) (next .0) (next .1) (omega arith))
+    let after = rows-left-chain rows (length rows) (row-at rows i .next) (next .0) (next .1) (omega arith) in
+    rw here (omega (arith, rows-left-chain rows (length rows) (Some i) (e .members) (e .chain) short))
 
 -- from everywhere inside, a sound table has a chain
 pub sound-chain : (rows : List ContractRow) → Sound rows → (o : Option ℕ) → Inside rows o → (is : List ℕ) × Chain rows o is

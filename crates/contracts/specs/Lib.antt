@@ -1,4 +1,4 @@
 pub mod Chains
 pub mod Check
 pub mod Refusals
-pub mod Walked
+pub mod Walks

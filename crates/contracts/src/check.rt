@@ -1,7 +1,7 @@
 ghost use Prim.Native.Nat.{_+_, _<_, _≤_};
 ghost use Rattle.contracts.specs.Chains.{Each, Ends, Leads, LeadsAt, Light, LightAt, Lowest, Meets, MeetsAt};
 ghost use Rattle.contracts.specs.Check.{Checked, EndsWithinRows, OneAnswer};
-ghost use Rattle.contracts.specs.Walked.{Walked};
+ghost use Rattle.contracts.specs.Walks.{Walked};
 ghost use Rattle.std.specs.Options.{Cases as BySome};
 ghost use Rattle.std.specs.Orderings.{Decides};
 ghost use lib.ListN.{length};

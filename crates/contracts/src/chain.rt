@@ -1,0 +1,36 @@
+ghost use Prim.Native.Nat.{ℕ, _<_};
+ghost use Rattle.contracts.specs.Chains.{Sound, row-at};
+ghost use Rattle.contracts.specs.Walks.{rows-left};
+ghost use Rattle.std.specs.Options.{Cases as BySome};
+ghost use Rattle.std.specs.declared.option.Option.the-variants.{None, Some};
+ghost use denote.Ref.{now};
+ghost use lib.ListN.{length};
+ghost use mathlib.Core.Path.{_≡_};
+use crate::rows::ContractRow;
+
+/// A walk along a chain of a checked table: the rows in order, each with its place in the table. It needs no counter of
+/// steps, since in such a table every chain ends.
+#[derive(Clone, Copy)]
+pub struct ChainRows<'a> {
+    pub(crate) rows: &'a [ContractRow],
+    pub(crate) place: Option<usize>,
+    ghost sound: { ∥ Sound (now rows) ∥₁ },
+    ghost inside: { (j : ℕ) → place ≡ Some j → j < length (now rows) },
+}
+
+impl<'a> Iterator for ChainRows<'a> as ChainRowsIterator {
+    type Item = (usize, ContractRow);
+
+    ghost steps = { λ s r t. (now (t .rows) ≡ now (s .rows)) × BySome r ((s .place ≡ None) × (t .place ≡ None)) (λ x. (s .place ≡ Some (x .0)) × (x .1 ≡ row-at (now (s .rows)) (x .0)) × (t .place ≡ x .1 .next)) };
+
+    ghost ends = { λ _. Unit {0} };
+
+    ghost left = { λ s. rows-left (now (s .rows)) (length (now (s .rows))) (s .place) };
+
+    fn next(&mut self) -> Option<(usize, ContractRow)> {
+        let place = self.place?;
+        let row = self.rows[place];
+        self.place = row.next;
+        Some((place, row))
+    }
+}
