@@ -1,4 +1,5 @@
 mod Answer
+pub mod Folding
 mod Marking
 pub mod Pigeons
 pub mod Sounds

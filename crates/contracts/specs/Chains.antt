@@ -1,9 +1,11 @@
 -- Contract rows and their chains. A row is named by its place in the table.
 use mathlib.Core.Path.{_≡_}
 use mathlib.Core.List.{List, [], _∷_}
-use mathlib.Core.Bool.{Bool, true, false}
-use Prim.Native.Nat.{ℕ, zero, suc, _<_, _≤_}
+use mathlib.Core.Bool.{Bool, true, false, cond}
+use Prim.Native.Nat.{ℕ, zero, suc, min, _<_, _≤_}
+use lib.Dec.{ltb}
 use lib.ListN.{length, getD}
+use Rattle.std.specs.Iters.{folded}
 use Rattle.std.specs.declared.option.Option.{Option}
 use Rattle.std.specs.declared.option.Option.the-variants.{Some, None}
 use Rattle.contracts.specs.declared.rows.ContractRow.{ContractRow}
@@ -15,6 +17,10 @@ no-row = record { party = 0; capacity = 0; receipt = 0; delivery = 0; next = Non
 -- the row at place i
 abbrev pub row-at : List ContractRow → ℕ → ContractRow
 row-at rows i = getD rows i no-row
+
+-- where a chain begins that is to begin at row i: none if there is no such row
+abbrev pub head-of : List ContractRow → ℕ → Option ℕ
+head-of rows i = cond (ltb i (length rows)) (Some i) None
 
 -- These rows, in this order, are the chain that begins at a row, or at none. It ends: its last row has no next.
 pub data Chain (rows : List ContractRow) : Option ℕ → List ℕ → Type 0 where
@@ -71,3 +77,11 @@ pub record Sound (rows : List ContractRow) : Type 0 where
   pub leads : Each LeadsAt rows
   pub meets : Each MeetsAt rows
   pub ends : Each Ends rows
+
+-- what a row carries of a quantity: no more than its capacity
+abbrev pub carried-by : List ContractRow → ℕ → ℕ → ℕ
+carried-by rows quantity i = min quantity (row-at rows i .capacity)
+
+-- what a chain carries of a quantity: the least of it and the capacities of its rows
+abbrev pub carried : List ContractRow → ℕ → List ℕ → ℕ
+carried rows quantity is = folded (carried-by rows) quantity is

@@ -18,7 +18,7 @@ pub struct ChainRows<'a> {
     ghost inside: { (j : ℕ) → place ≡ Some j → j < length (now rows) },
 }
 
-impl<'a> Iterator for ChainRows<'a> as ChainRowsIterator {
+pub impl<'a> Iterator for ChainRows<'a> as ChainRowsIterator {
     type Item = (usize, ContractRow);
 
     ghost steps = { λ s r t. (now (t .rows) ≡ now (s .rows)) × BySome r ((s .place ≡ None) × (t .place ≡ None)) (λ x. (s .place ≡ Some (x .0)) × (x .1 ≡ row-at (now (s .rows)) (x .0)) × (t .place ≡ x .1 .next)) };

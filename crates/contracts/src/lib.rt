@@ -4,3 +4,4 @@ pub mod chain;
 pub mod check;
 pub mod faults;
 pub mod rows;
+pub mod table;
