@@ -4,3 +4,4 @@ mod Marking
 pub mod Pigeons
 pub mod Sounds
 pub mod Walks
+pub mod Worked

@@ -39,14 +39,17 @@ sound-of rows t =
   where
     told : Bool → ℕ
     told b = cond b 1 0
+
     true-from-told : (b : Bool) → told b ≡ 1 → b ≡ true
     true-from-told true e = refl
     true-from-told false e = absurd (omega arith)
+
     within : (i : ℕ) → i < length rows → Sound rows → told (reaches-none rows (length rows) (Some i)) ≡ 1
     within i h s =
         let e = s .ends i h in
         let short = chain-short rows (s .leads) (Some i) (e .members) (row-inside rows i h) (e .chain) in
         ap told (reached-from-chain rows (length rows) (Some i) (e .members) (e .chain) short)
+
     ended : (i : ℕ) → told (reaches-none rows (length rows) (Some i)) ≡ 1 → Ends rows i
     ended i e =
         let c = chain-from-reached rows (length rows) (Some i) (true-from-told _ e) in

@@ -1,4 +1,5 @@
 pub mod Chains
 pub mod Check
+pub mod Figures
 pub mod Refusals
 pub mod Walks

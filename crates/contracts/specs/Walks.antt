@@ -1,7 +1,7 @@
 -- What walks along chains keep.
 use mathlib.Core.List.{List}
 use Prim.Native.Nat.{ℕ, zero, suc, _<_, _≤_}
-use lib.ListN.{getD}
+use lib.ListN.{length, getD}
 use Rattle.std.specs.declared.option.Option.{Option}
 use Rattle.std.specs.declared.option.Option.the-variants.{Some, None}
 use Rattle.contracts.specs.declared.rows.ContractRow.{ContractRow}
@@ -18,3 +18,7 @@ unfoldable pub rows-left : List ContractRow → ℕ → Option ℕ → ℕ
 rows-left rows n None = 0
 rows-left rows zero (Some i) = 0
 rows-left rows (suc n) (Some i) = suc (rows-left rows n (row-at rows i .next))
+
+-- the same in a table of which no chain is longer than the table
+abbrev pub left-of : List ContractRow → Option ℕ → ℕ
+left-of rows place = rows-left rows (length rows) place

@@ -1,6 +1,7 @@
 ghost use Prim.Native.Nat.{_+_, _<_, _≤_};
 ghost use Rattle.contracts.specs.Chains.{Each, Ends, Leads, LeadsAt, Light, LightAt, Lowest, Meets, MeetsAt};
 ghost use Rattle.contracts.specs.Check.{Checked, EndsWithinRows, OneAnswer};
+ghost use Rattle.contracts.specs.Figures.{Figures};
 ghost use Rattle.contracts.specs.Walks.{Walked};
 ghost use Rattle.std.specs.Options.{Cases as BySome};
 ghost use Rattle.std.specs.Orderings.{Decides};
@@ -127,6 +128,7 @@ pub fn check_contracts(rows: &[ContractRow]) -> Result<usize, TableFault>
     ensures checked { λ r. ⌜ Checked (now (rows .entry)) r ⌝ }
     ensures only { λ _. ⌜ OneAnswer (now (rows .entry)) ⌝ }
     ensures within { λ _. ⌜ EndsWithinRows (now (rows .entry)) ⌝ }
+    ensures figures { λ _. ⌜ Figures ⌝ }
 {
     judge(rows)
 }

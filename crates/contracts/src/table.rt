@@ -27,9 +27,8 @@ impl<'a> CheckedTable<'a> {
         ensures passed { λ r. ⌜ (Sound (now (rows .entry)) → now (r .rows) ≡ now (rows .entry)) ⌝ }
         ensures failed { λ r. ⌜ ((Sound (now (rows .entry)) → ⊥) → now (r .rows) ≡ []) ⌝ }
     {
-        match check_contracts(rows) {
-            Ok(_) => CheckedTable { rows },
-            Err(_) => CheckedTable { rows: &[] },
+        CheckedTable {
+            rows: passing(rows),
         }
     }
 
@@ -40,12 +39,20 @@ impl<'a> CheckedTable<'a> {
         self.rows.len()
     }
 
-    /// The rows of the table, which are sound.
-    pub fn rows(&self) -> &'a [ContractRow]
+    // What the table is made of, with its invariant as a fact.
+    fn sound_rows(&self) -> &'a [ContractRow]
         ensures same { λ r. ⌜ now r ≡ now (now (self .entry) .rows) ⌝ }
         ensures sound { λ r. ⌜ Sound (now r) ⌝ }
     {
         self.rows
+    }
+
+    /// The rows of the table: a caller may rely on all that the check tests.
+    pub fn rows(&self) -> &'a [ContractRow]
+        ensures same { λ r. ⌜ now r ≡ now (now (self .entry) .rows) ⌝ }
+        ensures sound { λ r. ⌜ Sound (now r) ⌝ }
+    {
+        self.sound_rows()
     }
 
     /// The row at a place, if there is one.
@@ -86,10 +93,29 @@ impl<'a> CheckedTable<'a> {
     pub fn carried(&self, head: usize, quantity: u32) -> u32
         ensures { λ r. ⌜ ((is : List ℕ) → Chain (now (now (self .entry) .rows)) (head-of (now (now (self .entry) .rows)) head) is → r ≡ carried (now (now (self .entry) .rows)) quantity is) ⌝ }
     {
-        let mut least = quantity;
-        for (_place, row) in self.chain(head) {
-            least = least.min(row.capacity);
-        }
-        least
+        least_along(self.chain(head), quantity)
     }
+}
+
+// The rows if they pass the check, else none.
+fn passing<'a>(rows: &'a [ContractRow]) -> &'a [ContractRow]
+    ensures passed { λ r. ⌜ (Sound (now (rows .entry)) → now r ≡ now (rows .entry)) ⌝ }
+    ensures failed { λ r. ⌜ ((Sound (now (rows .entry)) → ⊥) → now r ≡ []) ⌝ }
+    ensures sound { λ r. ⌜ Sound (now r) ⌝ }
+{
+    match check_contracts(rows) {
+        Ok(_) => rows,
+        Err(_) => &[],
+    }
+}
+
+// The least of a quantity and the capacities of the rows that a walk has before it.
+fn least_along(walk: ChainRows, quantity: u32) -> u32
+    ensures { λ r. ⌜ ((is : List ℕ) → Chain (now (walk .entry .rows)) (walk .entry .place) is → r ≡ carried (now (walk .entry .rows)) quantity is) ⌝ }
+{
+    let mut least = quantity;
+    for (_place, row) in walk {
+        least = least.min(row.capacity);
+    }
+    least
 }

@@ -1,0 +1,24 @@
+use mathlib.Core.Path.{ap, _∙_}
+use borrow.Author.Needs.{needs}
+use Rattle.contracts.specs.Chains.{carried-by, row-at}
+use Rattle.contracts.proofs.Folding.{folding-none, folding-more, folding-all}
+use Rattle.contracts.proofs.table.least_along.Needs as need
+
+pub loop-place-holds : need.loop-place-holds
+loop-place-holds c =
+    let same = c .into-iter-place-iterator .ensures .becomes in (
+      ap (λ w. w .rows .now) same,
+      folding-none (carried-by (c .args .walk .rows .now)) _ _ _ _ (ap (λ w. w .place) same),
+    )
+
+pub loop-place-again : need.loop-place-again
+loop-place-again c =
+    let rows = c .loop-place .inv .0 in
+    let step = c .in-Some .ensures tt .steps in
+    let here = step .1 .1 ∙ ap (λ rs. row-at rs (c .in-Some .-place)) rows in (
+      step .0 ∙ rows,
+      rw (c .min-least .ensures, here) (folding-more (carried-by (c .args .walk .rows .now)) _ _ _ _ _ _ _ (step .1 .0) (step .1 .2 ∙ ap (λ r. r .next) here) (c .loop-place .inv .1)),
+    )
+
+pub returns : need.returns
+returns c = folding-all (carried-by (c .args .walk .rows .now)) _ _ _ _ _ (search needs) (c .loop-place .inv .1)
