@@ -91,7 +91,8 @@ impl<'a> CheckedTable<'a> {
 
     /// How much of a quantity the chain from row `head` carries: the least of it and the capacities along the chain.
     pub fn carried(&self, head: usize, quantity: u32) -> u32
-        ensures { λ r. ⌜ ((is : List ℕ) → Chain (now (now (self .entry) .rows)) (head-of (now (now (self .entry) .rows)) head) is → r ≡ carried (now (now (self .entry) .rows)) quantity is) ⌝ }
+        ensures most { λ r. ⌜ r ≤ quantity ⌝ }
+        ensures least { λ r. ⌜ ((is : List ℕ) → Chain (now (now (self .entry) .rows)) (head-of (now (now (self .entry) .rows)) head) is → r ≡ carried (now (now (self .entry) .rows)) quantity is) ⌝ }
     {
         least_along(self.chain(head), quantity)
     }
@@ -111,7 +112,8 @@ fn passing<'a>(rows: &'a [ContractRow]) -> &'a [ContractRow]
 
 // The least of a quantity and the capacities of the rows that a walk has before it.
 fn least_along(walk: ChainRows, quantity: u32) -> u32
-    ensures { λ r. ⌜ ((is : List ℕ) → Chain (now (walk .entry .rows)) (walk .entry .place) is → r ≡ carried (now (walk .entry .rows)) quantity is) ⌝ }
+    ensures most { λ r. ⌜ r ≤ quantity ⌝ }
+    ensures least { λ r. ⌜ ((is : List ℕ) → Chain (now (walk .entry .rows)) (walk .entry .place) is → r ≡ carried (now (walk .entry .rows)) quantity is) ⌝ }
 {
     let mut least = quantity;
     for (_place, row) in walk {

@@ -6,19 +6,24 @@ use Rattle.contracts.proofs.table.least_along.Needs as need
 
 pub loop-place-holds : need.loop-place-holds
 loop-place-holds c =
-    let same = c .into-iter-place-iterator .ensures .becomes in (
-      ap (λ w. w .rows .now) same,
-      folding-none (carried-by (c .args .walk .rows .now)) _ _ _ _ (ap (λ w. w .place) same),
-    )
+    let same = c .into-iter-place-iterator .ensures .becomes in
+    (search needs, ap (λ w. w .rows .now) same, folding-none (carried-by (c .args .walk .rows .now)) _ _ _ _ (ap (λ w. w .place) same))
 
 pub loop-place-again : need.loop-place-again
 loop-place-again c =
-    let rows = c .loop-place .inv .0 in
+    let rows = c .loop-place .inv .1 in
     let step = c .in-Some .ensures tt .steps in
-    let here = step .1 .1 ∙ ap (λ rs. row-at rs (c .in-Some .-place)) rows in (
+    let here = step .1 .1 ∙ ap (λ rs. row-at rs (c .in-Some .-place)) rows in
+    let onward = step .1 .2 ∙ ap (λ r. r .next) here in
+    (
+      search needs,
       step .0 ∙ rows,
-      rw (c .min-least .ensures, here) (folding-more (carried-by (c .args .walk .rows .now)) _ _ _ _ _ _ _ (step .1 .0) (step .1 .2 ∙ ap (λ r. r .next) here) (c .loop-place .inv .1)),
+      rw (c .min-least .ensures, here) (folding-more (carried-by (c .args .walk .rows .now)) _ _ _ _ _ _ _ (step .1 .0) onward (c .loop-place .inv .2)),
     )
 
 pub returns : need.returns
-returns c = folding-all (carried-by (c .args .walk .rows .now)) _ _ _ _ _ (search needs) (c .loop-place .inv .1)
+returns c =
+    record {
+      most = c .loop-place .inv .0;
+      least = folding-all (carried-by (c .args .walk .rows .now)) _ _ _ _ _ (search needs) (c .loop-place .inv .2);
+    }
