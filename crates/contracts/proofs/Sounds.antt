@@ -11,7 +11,8 @@ use mathlib.Core.Bool.{Bool, true, false, cond}
 use Rattle.std.specs.declared.option.Option.{Option}
 use Rattle.std.specs.declared.option.Option.the-variants.{Some, None}
 use Rattle.contracts.specs.declared.rows.ContractRow.{ContractRow}
-use Rattle.contracts.specs.Chains.{row-at, Chain, done, goes, Ends, Sound, reaches-none}
+use Rattle.std.proofs.shelf.Ways.{tells}
+use Rattle.contracts.specs.Chains.{row-at, head-of, Chain, done, goes, Ends, Sound, reaches-none}
 use Rattle.contracts.specs.Walks.{rows-left}
 use Rattle.contracts.proofs.Walks.{Inside, row-inside, chain-short, chain-from-reached, reached-from-chain, chain-next}
 
@@ -79,3 +80,7 @@ sound-falls rows s o i here h =
 pub sound-chain : (rows : List ContractRow) → Sound rows → (o : Option ℕ) → Inside rows o → (is : List ℕ) × Chain rows o is
 sound-chain rows s None inside = ([], done)
 sound-chain rows s (Some i) inside = let e = s .ends i (inside i refl) in (e .members, e .chain)
+
+-- a chain that is to begin at row i begins inside the table
+pub head-inside : (rows : List ContractRow) (i : ℕ) → Inside rows (head-of rows i)
+head-inside rows i j e = grind (arith, tells)

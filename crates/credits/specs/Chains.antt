@@ -17,6 +17,7 @@ use Rattle.contracts.specs.Chains.{row-at, head-of, Chain, carried}
 use Rattle.credits.specs.declared.nodes.NodeRecord.{NodeRecord}
 use Rattle.credits.specs.declared.schedule.Schedule.{Schedule}
 use Rattle.credits.specs.declared.«chain_credits».ChainCredits.{ChainCredits}
+use Rattle.credits.specs.declared.quantities.BalancedQuantity.{BalancedQuantity}
 use Rattle.credits.specs.declared.faults.PriceFault.{PriceFault}
 use Rattle.credits.specs.declared.faults.CreditFault.{CreditFault}
 use Rattle.credits.specs.declared.faults.CreditFault.the-variants.{Table, Quantity, Prices}
@@ -26,6 +27,11 @@ use Rattle.credits.specs.Legs.{node-leg, row-credit}
 -- the balanced quantity b: the least of demand, supply and the capacities along the chain, less the day-ahead portion
 abbrev pub balanced : List ContractRow → List ℕ → Schedule → ℤ
 balanced rows is s = pos (carried rows (min (s .demand) (s .supply)) is) -ℤ pos (s .«day_ahead»)
+
+-- the answer is this quantity, unless there is a fault, which is then the answer
+abbrev pub Balanced : Option CreditFault → ℤ → Result BalancedQuantity CreditFault → Type 0
+Balanced fault b (Ok q) = (fault ≡ None) × (q .«milli_mwh» ≡ b)
+Balanced fault b (Err f) = fault ≡ Some f
 
 -- the credit of each row, in the chain's order
 abbrev pub credits : List ContractRow → List NodeRecord → ℤ → List ℕ → List ℤ
