@@ -4,11 +4,13 @@ use mathlib.Core.List.{List, [], _∷_}
 use mathlib.Core.Bool.{true, false}
 use Prim.Native.Nat.{ℕ}
 use lib.IntN.{ℤ, pos, negℤ}
-use Rattle.std.specs.declared.option.Option.the-variants.{None}
+use Rattle.std.specs.declared.option.Option.the-variants.{Some, None}
 use Rattle.contracts.specs.declared.rows.ContractRow.{ContractRow}
 use Rattle.credits.specs.declared.nodes.NodeRecord.{NodeRecord}
 use Rattle.credits.specs.Prices.{weighted-price, within-bounds}
-use Rattle.credits.specs.Legs.{leg, row-credit}
+use Rattle.credits.specs.declared.schedule.Schedule.{Schedule}
+use Rattle.credits.specs.Legs.{leg}
+use Rattle.credits.specs.Chains.{balanced, credits}
 
 -- a record of two deviations and two prices
 abbrev pub node : ℕ → ℕ → ℤ → ℤ → NodeRecord
@@ -20,9 +22,14 @@ abbrev pub three-nodes : List NodeRecord
 three-nodes =
     node 0 0 (pos 100000) (pos 300000) ∷ node 1000 3000 (pos 400000) (pos 800000) ∷ node 500 0 (pos 1000000) (pos 0) ∷ []
 
--- a row between two nodes
-abbrev pub row : ℕ → ℕ → ContractRow
-row from to = record { party = 0; capacity = 0; receipt = from; delivery = to; next = None }
+-- a contract of two rows, of capacities 35,000 and 60,000, along these nodes
+abbrev pub two-rows : List ContractRow
+two-rows =
+    record { party = 0; capacity = 35000; receipt = 0; delivery = 1; next = Some 1 } ∷ record { party = 0; capacity = 60000; receipt = 1; delivery = 2; next = None } ∷ []
+
+-- demand 50,000, supply 40,000, and so much balanced day-ahead
+abbrev pub schedule : ℕ → Schedule
+schedule d = record { demand = 50000; supply = 40000; «day_ahead» = d }
 
 pub record Figures : Type 0 where
   -- nothing deviated: half the sum of the prices, a half going away from zero
@@ -38,9 +45,13 @@ pub record Figures : Type 0 where
   -- half a cent, either way
   pub half-leg : leg (pos 1) (pos 500000) ≡ pos 1
   pub owed-half-leg : leg (negℤ (pos 1)) (pos 500000) ≡ negℤ (pos 1)
+  -- the least of 50,000, 40,000, 35,000 and 60,000, less 5,000; less 60,000 it is negative
+  pub quantity : balanced two-rows (0 ∷ 1 ∷ []) (schedule 5000) ≡ pos 30000
+  pub owed-quantity : balanced two-rows (0 ∷ 1 ∷ []) (schedule 60000) ≡ negℤ (pos 25000)
   -- 6,000 less 21,000, and 21,000 less 30,000
-  pub first-row : row-credit three-nodes (pos 30000) (row 0 1) ≡ negℤ (pos 15000)
-  pub second-row : row-credit three-nodes (pos 30000) (row 1 2) ≡ negℤ (pos 9000)
+  pub both-rows : credits two-rows three-nodes (pos 30000) (0 ∷ 1 ∷ []) ≡ negℤ (pos 15000) ∷ negℤ (pos 9000) ∷ []
+  -- at -25,000 the legs are -5,000, -17,500 and -25,000
+  pub owed-rows : credits two-rows three-nodes (negℤ (pos 25000)) (0 ∷ 1 ∷ []) ≡ pos 12500 ∷ pos 7500 ∷ []
   -- the limits themselves are accepted, and nothing beyond one
   pub at-limits : within-bounds (node 1000000 1000000 (pos 100000000) (negℤ (pos 100000000))) ≡ true
   pub over-deviation : within-bounds (node 0 1000001 (pos 0) (pos 0)) ≡ false

@@ -14,8 +14,7 @@ loop-place-again c =
     let rows = c .loop-place .inv .1 in
     let step = c .in-Some .ensures tt .steps in
     let here = step .1 .1 ∙ ap (λ rs. row-at rs (c .in-Some .-place)) rows in
-    let onward = step .1 .2 ∙ ap (λ r. r .next) here in
-    (
+    let onward = step .1 .2 ∙ ap (λ r. r .next) here in (
       search needs,
       step .0 ∙ rows,
       rw (c .min-least .ensures, here) (folding-more (carried-by (c .args .walk .rows .now)) _ _ _ _ _ _ _ (step .1 .0) onward (c .loop-place .inv .2)),

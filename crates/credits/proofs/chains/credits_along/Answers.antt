@@ -39,8 +39,7 @@ loop-place-again c =
     let fits : SFits w64 (c .in-Continue-cents .field-0) = search needs in
     let answer = c .in-Continue-cents .ensures tt .answer in
     let sound = ap (row-fault (c .args .nodes .now)) (sym here) ∙ answer .0 in
-    let value = toZ-ofZ w64 _ fits ∙ answer .1 ∙ ap (row-credit (c .args .nodes .now) (c .args .b .«milli_mwh»)) here in
-    (
+    let value = toZ-ofZ w64 _ fits ∙ answer .1 ∙ ap (row-credit (c .args .nodes .now) (c .args .b .«milli_mwh»)) here in (
       step .0 ∙ rows,
       length-set (c .loop-place .cents) _ _ ∙ c .loop-place .inv .1,
       omega arith,
