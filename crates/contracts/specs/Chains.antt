@@ -78,6 +78,15 @@ pub record Sound (rows : List ContractRow) : Type 0 where
   pub meets : Each MeetsAt rows
   pub ends : Each Ends rows
 
+-- row j leads to row i
+abbrev pub Names : List ContractRow → ℕ → ℕ → Type 0
+Names rows i j = row-at rows j .next ≡ Some i
+
+-- a chain begins at row i: no row leads to it
+pub record Head (rows : List ContractRow) (i : ℕ) : Type 0 where
+  pub here : i < length rows
+  pub unnamed : (j : ℕ) → j < length rows → Names rows i j → ⊥
+
 -- what a row carries of a quantity: no more than its capacity
 abbrev pub carried-by : List ContractRow → ℕ → ℕ → ℕ
 carried-by rows quantity i = min quantity (row-at rows i .capacity)

@@ -1,7 +1,8 @@
 ghost use Prim.Native.Nat.{ℕ, _<_, _≤_};
-ghost use Rattle.contracts.specs.Chains.{Chain, Sound, carried, head-of, row-at};
+ghost use Rattle.contracts.specs.Chains.{Chain, Head, Names, Sound, carried, head-of, row-at};
 ghost use Rattle.contracts.specs.declared.faults.TableFault.the-variants.{NoHead};
 ghost use Rattle.std.specs.Options.{Cases as BySome};
+ghost use Rattle.std.specs.Orderings.{Decides};
 ghost use Rattle.std.specs.Results.{Cases as ByOk};
 ghost use denote.Ref.{now};
 ghost use lib.ListN.{length};
@@ -89,6 +90,13 @@ impl<'a> CheckedTable<'a> {
         }
     }
 
+    /// Whether a chain begins at a row: it is a row, and none leads to it.
+    pub fn is_head(&self, place: usize) -> bool
+        ensures { λ r. ⌜ Decides r (Head (now (now (self .entry) .rows)) place) ⌝ }
+    {
+        place < self.rows.len() && !leads_to(self.rows, place)
+    }
+
     /// How much of a quantity the chain from row `head` carries: the least of it and the capacities along the chain.
     pub fn carried(&self, head: usize, quantity: u32) -> u32
         ensures most { λ r. ⌜ r ≤ quantity ⌝ }
@@ -108,6 +116,18 @@ fn passing<'a>(rows: &'a [ContractRow]) -> &'a [ContractRow]
         Ok(_) => rows,
         Err(_) => &[],
     }
+}
+
+// Whether some row leads to a place.
+fn leads_to(rows: &[ContractRow], place: usize) -> bool
+    ensures { λ r. ⌜ Decides r ((j : ℕ) × (j < length (now (rows .entry))) × Names (now (rows .entry)) place j) ⌝ }
+{
+    for row in rows {
+        if row.next == Some(place) {
+            return true;
+        }
+    }
+    false
 }
 
 // The least of a quantity and the capacities of the rows that a walk has before it.
