@@ -1,0 +1,4 @@
+mod FieldByField
+mod LineByLine
+mod Spelling
+mod Splitting
