@@ -15,12 +15,19 @@ pub(super) struct Usage;
 
 pub impl fmt::Display for Usage as UsageDisplay {
     fn fmt<W: fmt::Write>(&self, f: &mut fmt::Formatter<W>) -> fmt::Result {
-        f.write_str("usage: evening AMOUNT WEIGHT...\n\n")?;
+        f.write_str("usage: evening FOLDER\n       evening AMOUNT WEIGHT...\n\n")?;
         f.write_str(
-            "Shares AMOUNT over the weights by each of the three sharing rules, and prints\n",
+            "With one word, reads contracts.csv and nodes.csv from FOLDER, checks the contract\n",
         )?;
         f.write_str(
-            "a line for each rule: the share of each weight, and the rest that is left.\n\n",
+            "table, and prints a line for each row of each of its chains. The status is 0 if\n",
+        )?;
+        f.write_str("both files are read and the table passes.\n\n")?;
+        f.write_str(
+            "With two or more, shares AMOUNT over the weights by each of the three sharing rules,\n",
+        )?;
+        f.write_str(
+            "and prints a line for each: the share of each weight, and the rest that is left.\n\n",
         )?;
         write!(
             f,
@@ -74,7 +81,7 @@ pub impl fmt::Display for TaskFault as TaskFaultDisplay {
     fn fmt<W: fmt::Write>(&self, f: &mut fmt::Formatter<W>) -> fmt::Result {
         match self {
             TaskFault::NoAmount => f.write_str(
-                "an amount and weights are wanted; evening --help says more",
+                "a folder, or an amount and weights, are wanted; evening --help says more",
             ),
             TaskFault::AmountNoNumber => {
                 write!(
@@ -120,13 +127,14 @@ pub(super) fn message(
 mod tests {
     use super::*;
     use crate::reading::read;
+    use crate::report;
     use std::test::*;
 
-    // The words of a line, and the message that they are refused with; none where they are a task.
+    // The words of a line, and the message that they are refused with, or what is printed where they are a task.
     const LINES: [(&str, &str); 12] = [
         (
             "",
-            "an amount and weights are wanted; evening --help says more",
+            "a folder, or an amount and weights, are wanted; evening --help says more",
         ),
         (
             "x 1",
@@ -158,8 +166,14 @@ mod tests {
             "1 4000000000 1",
             "the weights together are over 4000000000, the largest total",
         ),
-        ("-1000000000 4000000000", ""),
-        ("+7 007", ""),
+        (
+            "100 1 1 1",
+            "sharing 100 cents over weights 1, 1, 1 (3 in all)\nrate: shares 33, 33, 33; rest 1\nlargest-remainder: shares 34, 33, 33; rest 0\nrunning: shares 33, 33, 34; rest 0",
+        ),
+        (
+            "-7 +7 007",
+            "sharing -7 cents over weights 7, 7 (14 in all)\nrate: shares -4, -4; rest 1\nlargest-remainder: shares -4, -3; rest 0\nrunning: shares -3, -4; rest 0",
+        ),
     ];
 
     fn said(heap: Global, line: &str) -> Result<String, AllocError> {
@@ -168,7 +182,7 @@ mod tests {
             words.push(String::from_str(heap, word)?)?;
         }
         match read(heap, words.as_slice()) {
-            Ok(_) => Ok(String::new(heap)),
+            Ok(task) => report(heap, &task),
             Err(fault) => message(heap, words.as_slice(), &fault),
         }
     }

@@ -1,5 +1,7 @@
 // The evening run: the program that a settlement analyst starts each evening, before the operator's statement is there.
-// For now it shares an amount of cents over weights by each of the three sharing rules.
+// For now it reports the contract table and the node records of a folder, or shares an amount of cents over weights by
+// each of the three sharing rules.
+mod folder;
 mod lines;
 mod reading;
 mod sharing_out;
@@ -54,6 +56,9 @@ fn run(rt: &LibcRuntime) -> Result<(), AnyError> {
     if asks_usage(words.as_slice()) {
         rt.println(Usage)?;
         return Ok(());
+    }
+    if words.len() == 1 {
+        return folder::run(rt, words[0].as_str());
     }
     match reading::read(heap, words.as_slice()) {
         Ok(task) => rt.println(report(heap, &task)?)?,
