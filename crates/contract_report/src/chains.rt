@@ -8,9 +8,9 @@ ghost use mathlib.Core.List.{List, [], _∷_, _++_};
 ghost use mathlib.Core.Path.{_≡_};
 use crate::row_line::RowLine;
 use crate::row_line::RowLineDisplay;
-use contracts::chain::ChainRows;
-use contracts::chain::ChainRowsIterator;
-use contracts::table::CheckedTable;
+use contracts::ChainRows;
+use contracts::ChainRowsIterator;
+use contracts::CheckedTable;
 use std::alloc::AllocError;
 use std::alloc::Global;
 

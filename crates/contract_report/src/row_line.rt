@@ -1,7 +1,7 @@
 // The line of one row of a chain.
 ghost use Rattle.contract_report.specs.Report.{row-words};
 ghost use Rattle.std.specs.declared.option.Option.the-variants.{Some};
-use contracts::rows::ContractRow;
+use contracts::ContractRow;
 use std::fmt;
 
 // A row of the chain that begins at row `head`, and the row's place in the table.

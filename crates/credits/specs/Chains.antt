@@ -16,7 +16,7 @@ use Rattle.contracts.specs.declared.faults.TableFault.the-variants.{NoHead}
 use Rattle.contracts.specs.Chains.{row-at, head-of, Chain, carried}
 use Rattle.credits.specs.declared.nodes.NodeRecord.{NodeRecord}
 use Rattle.credits.specs.declared.schedule.Schedule.{Schedule}
-use Rattle.credits.specs.declared.«chain_credits».ChainCredits.{ChainCredits}
+use Rattle.credits.specs.declared.credited.ChainCredits.{ChainCredits}
 use Rattle.credits.specs.declared.quantities.BalancedQuantity.{BalancedQuantity}
 use Rattle.credits.specs.declared.faults.PriceFault.{PriceFault}
 use Rattle.credits.specs.declared.faults.CreditFault.{CreditFault}

@@ -8,7 +8,7 @@ ghost use denote.Ref.{now};
 ghost use lib.IntN.{pos, _-ℤ_};
 ghost use mathlib.Core.List.{List};
 ghost use mathlib.Core.Path.{_≡_};
-use crate::chain_credits::ChainCredits;
+use crate::credited::ChainCredits;
 use crate::faults::CreditFault;
 use crate::faults::CreditFaultFromPrices;
 use crate::faults::CreditFaultFromTable;
@@ -17,10 +17,10 @@ use crate::legs::row_credit;
 use crate::nodes::NodeRecord;
 use crate::quantities::BalancedQuantity;
 use crate::schedule::Schedule;
-use contracts::chain::ChainRows;
-use contracts::chain::ChainRowsIterator;
-use contracts::check::MAX_ROWS;
-use contracts::table::CheckedTable;
+use contracts::ChainRows;
+use contracts::ChainRowsIterator;
+use contracts::CheckedTable;
+use contracts::MAX_ROWS;
 
 /// The largest demand, supply and day-ahead portion.
 pub const MAX_SCHEDULED_MILLI_MWH: u32 = 1_000_000;

@@ -2,9 +2,9 @@
 ghost use mathlib.Core.Path.{_≡_};
 ghost use Rattle.credits.specs.Faults.{credit-refusal, price-refusal};
 ghost use Rattle.credits.specs.declared.faults.CreditFault.the-variants.{Prices, Table};
-use contracts::faults::TableFault;
-use contracts::faults::TableFaultDebug;
-use contracts::faults::TableFaultPartialEq;
+use contracts::TableFault;
+use contracts::TableFaultDebug;
+use contracts::TableFaultPartialEq;
 use refusals::Layer;
 use refusals::Refusal;
 

@@ -11,7 +11,7 @@ use crate::nodes::NodeRecord;
 use crate::prices::node_price;
 use crate::quantities::BalancedQuantity;
 use crate::quotients::nearest_whole;
-use contracts::rows::ContractRow;
+use contracts::ContractRow;
 
 // A thousandth of a MWh times a hundred-thousandth of a dollar is a millionth of a cent.
 const MILLIONTHS_PER_CENT: u64 = 1_000_000;

@@ -1,11 +1,32 @@
-//! Congestion credits of transmission contracts.
+//! Congestion credits of transmission contracts: the price of a node, the credit of a row, and the credits along a chain.
 
-pub mod chain_credits;
-pub mod chains;
-pub mod faults;
-pub mod legs;
-pub mod nodes;
-pub mod prices;
-pub mod quantities;
+mod chains;
+mod credited;
+mod faults;
+mod legs;
+mod nodes;
+mod prices;
+mod quantities;
 mod quotients;
-pub mod schedule;
+mod schedule;
+
+pub use chains::MAX_SCHEDULED_MILLI_MWH;
+pub use chains::balanced_quantity;
+pub use chains::chain_credits;
+pub use credited::ChainCredits;
+pub use faults::CreditFault;
+pub use faults::CreditFaultDebug;
+pub use faults::CreditFaultFromPrices;
+pub use faults::CreditFaultFromTable;
+pub use faults::CreditFaultPartialEq;
+pub use faults::PriceFault;
+pub use faults::PriceFaultDebug;
+pub use faults::PriceFaultPartialEq;
+pub use legs::row_credit;
+pub use nodes::NodeRecord;
+pub use prices::MAX_DEVIATION_MILLI_MWH;
+pub use prices::MAX_PRICE_MILLICENTS;
+pub use prices::node_price;
+pub use quantities::BalancedQuantity;
+pub use quantities::MAX_QUANTITY_MILLI_MWH;
+pub use schedule::Schedule;

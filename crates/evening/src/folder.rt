@@ -1,8 +1,8 @@
 // The files of a folder: read, and reported line by line.
 use contract_report::contract_report;
-use contracts::check::check_contracts;
-use contracts::rows::ContractRow;
-use credits::nodes::NodeRecord;
+use contracts::ContractRow;
+use contracts::check_contracts;
+use credits::NodeRecord;
 use files::FileFault;
 use files::read_contracts;
 use files::read_nodes;

@@ -12,7 +12,7 @@ use crate::numbers::NumberText;
 use crate::reading::FileFault;
 use crate::reading::LineText;
 use crate::reading::read_lines;
-use contracts::rows::ContractRow;
+use contracts::ContractRow;
 use std::alloc::Global;
 
 // The row of these fields.

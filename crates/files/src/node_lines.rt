@@ -11,7 +11,7 @@ use crate::numbers::PriceText;
 use crate::reading::FileFault;
 use crate::reading::LineText;
 use crate::reading::read_lines;
-use credits::nodes::NodeRecord;
+use credits::NodeRecord;
 use std::alloc::Global;
 
 impl LineText for NodeRecord as NodeLine {

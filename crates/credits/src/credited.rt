@@ -1,7 +1,7 @@
 ghost use Prim.Native.Nat.{_≤_};
 ghost use lib.ListN.{take};
 ghost use mathlib.Core.Path.{_≡_};
-use contracts::check::MAX_ROWS;
+use contracts::MAX_ROWS;
 
 /// The credits of the rows of one chain, in cents and in the chain's order. No chain is longer than a table may be.
 #[derive(Clone, Copy)]
