@@ -2,3 +2,4 @@ mod FieldByField
 mod LineByLine
 mod Spelling
 mod Splitting
+mod OneReading

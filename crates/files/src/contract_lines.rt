@@ -2,7 +2,7 @@
 ghost use mathlib.Core.Path.{_≡_};
 ghost use Rattle.std.specs.Of.Vec.{vec-items};
 ghost use Rattle.std.specs.Results.{Cases as ByOk};
-ghost use Rattle.files.specs.Files.{ReadsAs, Refuses};
+ghost use Rattle.files.specs.Files.{OneAnswer, ReadsAs, Refuses};
 ghost use Rattle.files.specs.Lines.{contract-line, WritableRow};
 use crate::fields::COMMA;
 use crate::fields::NEWLINE;
@@ -51,7 +51,8 @@ impl LineText for ContractRow as ContractLine {
 
 /// The contract table whose lines the bytes are. Fails at the first line that is none of a row, and for want of memory.
 pub fn read_contracts(heap: Global, bytes: &[u8]) -> Result<Vec<ContractRow>, FileFault>
-    ensures { λ r. ⌜ ByOk r (λ v. ReadsAs contract-line WritableRow (now (bytes .entry)) (vec-items v)) (Refuses contract-line WritableRow (now (bytes .entry))) ⌝ }
+    ensures reads { λ r. ⌜ ByOk r (λ v. ReadsAs contract-line WritableRow (now (bytes .entry)) (vec-items v)) (Refuses contract-line WritableRow (now (bytes .entry))) ⌝ }
+    ensures only { λ _. ⌜ OneAnswer contract-line WritableRow ⌝ }
 {
     read_lines(heap, bytes)
 }

@@ -1,7 +1,7 @@
 // Node records: `fifteen-minute deviation,dispatch deviation,fifteen-minute price,dispatch price`.
 ghost use Rattle.std.specs.Of.Vec.{vec-items};
 ghost use Rattle.std.specs.Results.{Cases as ByOk};
-ghost use Rattle.files.specs.Files.{ReadsAs, Refuses};
+ghost use Rattle.files.specs.Files.{OneAnswer, ReadsAs, Refuses};
 ghost use Rattle.files.specs.Lines.{node-line, WritableNode};
 use crate::fields::COMMA;
 use crate::fields::NEWLINE;
@@ -36,7 +36,8 @@ impl LineText for NodeRecord as NodeLine {
 
 /// The node records whose lines the bytes are. Fails at the first line that is none of a record, and for want of memory.
 pub fn read_nodes(heap: Global, bytes: &[u8]) -> Result<Vec<NodeRecord>, FileFault>
-    ensures { λ r. ⌜ ByOk r (λ v. ReadsAs node-line WritableNode (now (bytes .entry)) (vec-items v)) (Refuses node-line WritableNode (now (bytes .entry))) ⌝ }
+    ensures reads { λ r. ⌜ ByOk r (λ v. ReadsAs node-line WritableNode (now (bytes .entry)) (vec-items v)) (Refuses node-line WritableNode (now (bytes .entry))) ⌝ }
+    ensures only { λ _. ⌜ OneAnswer node-line WritableNode ⌝ }
 {
     read_lines(heap, bytes)
 }
