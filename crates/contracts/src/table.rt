@@ -37,7 +37,7 @@ impl<'a> CheckedTable<'a> {
     pub fn len(&self) -> usize
         ensures { λ r. ⌜ r ≡ length (now (now (self .entry) .rows)) ⌝ }
     {
-        self.rows.len()
+        self.rows().len()
     }
 
     // What the table is made of, with its invariant as a fact.
