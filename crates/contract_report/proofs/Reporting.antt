@@ -4,14 +4,11 @@ use mathlib.Core.List.{List}
 use Prim.Native.Nat.{ℕ}
 use native.Mathlib.Omega.{arith}
 use lib.ListN.{length}
-use Rattle.std.specs.Of.String.{string-bytes}
-use Rattle.std.specs.Vec.{made}
 use Rattle.std.specs.declared.result.Result.{Result}
 use Rattle.std.specs.declared.result.Result.the-variants.{Ok, Err}
 use Rattle.contracts.specs.declared.rows.ContractRow.{ContractRow}
 use Rattle.contracts.specs.declared.faults.TableFault.{TableFault}
-use Rattle.contracts.specs.Chains.{Sound}
-use Rattle.contracts.specs.Check.{Checked, Fails, OneAnswer}
+use Rattle.contracts.specs.Check.{Judged, Fails, OneAnswer}
 use Rattle.contracts.specs.Refusals.{table-refusal}
 use Rattle.contract_report.specs.Report.{Chains, Report, refusal-line}
 
@@ -19,7 +16,7 @@ use Rattle.contract_report.specs.Report.{Chains, Report, refusal-line}
 ok-not-err : (n : ℕ) (f : TableFault) → Ok n ≡ Err f → ⊥
 ok-not-err n f e = let z : _≡_ {A = ℕ} 0 1 = cc in omega arith
 
-pub report-passed : (rows : List ContractRow) (n : ℕ) (text : List ℕ) → OneAnswer rows → Checked rows (Ok n) → Chains rows text → Report rows text
+pub report-passed : (rows : List ContractRow) (n : ℕ) (text : List ℕ) → OneAnswer rows → Judged rows (Ok n) → Chains rows text → Report rows text
 report-passed rows n text one checked chains =
     record {
       passes = λ _. chains;

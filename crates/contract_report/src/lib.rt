@@ -3,8 +3,7 @@
 mod chains;
 mod row_line;
 
-ghost use Rattle.contract_report.specs.Report.{Chains, Report, refusal-line};
-ghost use Rattle.contracts.specs.Chains.{Sound};
+ghost use Rattle.contract_report.specs.Report.{Report, refusal-line};
 ghost use Rattle.contracts.specs.Refusals.{table-refusal};
 ghost use Rattle.std.specs.Of.String.{string-bytes};
 ghost use Rattle.std.specs.Vec.{made};

@@ -2,16 +2,15 @@
 use mathlib.Core.Path.{_≡_, refl, sym, ap, _∙_}
 use mathlib.Core.List.{List}
 use mathlib.Core.Logic.{⊎-elim}
-use Prim.Native.Nat.{ℕ, _<_}
+use Prim.Native.Nat.{ℕ}
 use native.Mathlib.Omega.{arith}
 use Rattle.std.proofs.shelf.Tests.{cases-lt}
-use Rattle.std.specs.declared.result.Result.{Result}
 use Rattle.std.specs.declared.result.Result.the-variants.{Ok, Err}
 use Rattle.contracts.specs.declared.rows.ContractRow.{ContractRow}
 use Rattle.contracts.specs.declared.faults.TableFault.{TableFault}
 use Rattle.contracts.specs.declared.faults.TableFault.the-variants.{TooManyRows, Capacity, NoNext, NodesApart, Endless, NoHead}
 use Rattle.contracts.specs.Chains.{Each, Lowest, Sound}
-use Rattle.contracts.specs.Check.{Checked, Fails, OneAnswer}
+use Rattle.contracts.specs.Check.{Fails, OneAnswer}
 
 -- the lowest row that fails is one
 lowest-one : (good : List ContractRow → ℕ → Type 0) (rows : List ContractRow) (i j : ℕ) → Lowest good rows i → Lowest good rows j → i ≡ j

@@ -5,12 +5,11 @@ use mathlib.Core.Bool.{true, false}
 use Prim.Native.Nat.{ℕ, zero, suc, _<_, _≤_}
 use native.Mathlib.Omega.{arith}
 use lib.ListN.{length, getD, drop, length-drop}
-use Rattle.std.specs.Orderings.{Decides}
 use Rattle.std.specs.declared.option.Option.{Option}
 use Rattle.std.specs.declared.option.Option.the-variants.{Some, None}
 use Rattle.std.proofs.shelf.Tests.{false≢true}
 use Rattle.contracts.specs.declared.rows.ContractRow.{ContractRow}
-use Rattle.contracts.specs.Chains.{row-at, Chain, done, goes, Ends, reaches-none, LeadsAt, Each}
+use Rattle.contracts.specs.Chains.{row-at, Chain, done, goes, reaches-none, LeadsAt, Each}
 use Rattle.contracts.specs.Check.{EndsWithinRows}
 use Rattle.contracts.proofs.Pigeons.{pigeons}
 

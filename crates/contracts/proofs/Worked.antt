@@ -1,15 +1,15 @@
 -- The worked tables, by computation. Assumes nothing.
-use mathlib.Core.Path.{_≡_, refl, sym, _∙_}
+use mathlib.Core.Path.{_≡_, refl, sym}
 use mathlib.Core.List.{List}
-use mathlib.Core.Bool.{Bool, true, false}
-use Prim.Native.Nat.{ℕ, zero, suc, _<_, _≤_}
+use mathlib.Core.Bool.{true, false}
+use Prim.Native.Nat.{ℕ, zero, suc, _<_}
 use native.Mathlib.Omega.{arith}
 use lib.ListN.{length}
 use Rattle.std.specs.declared.option.Option.{Option}
 use Rattle.std.specs.declared.option.Option.the-variants.{Some, None}
 use Rattle.std.proofs.shelf.Tests.{false≢true}
 use Rattle.contracts.specs.declared.rows.ContractRow.{ContractRow}
-use Rattle.contracts.specs.Chains.{row-at, reaches-none, Each, LightAt, LeadsAt, MeetsAt, Ends, Leads, Meets, Sound}
+use Rattle.contracts.specs.Chains.{row-at, reaches-none, Each, LightAt, LeadsAt, MeetsAt, Ends}
 use Rattle.contracts.specs.Figures.{circle, joined, Figures}
 use Rattle.contracts.proofs.Walks.{ends-within-rows}
 

@@ -1,7 +1,6 @@
 -- What the check of a contract table answers. Each test goes over all rows before the next begins.
 use mathlib.Core.Path.{_≡_}
 use mathlib.Core.List.{List}
-use mathlib.Core.Bool.{true}
 use Prim.Native.Nat.{ℕ, _<_, _≤_}
 use lib.ListN.{length}
 use Rattle.std.specs.Orderings.{Decides}
@@ -23,13 +22,13 @@ Fails rows (Endless i) = (length rows ≤ 256) × Each LightAt rows × Each Lead
 Fails rows NoHead = ⊥
 
 -- the answer is the row count of a table that passes, or why it fails
-abbrev pub Checked : List ContractRow → Result ℕ TableFault → Type 0
-Checked rows (Ok n) = Sound rows × (n ≡ length rows)
-Checked rows (Err fault) = Fails rows fault
+abbrev pub Judged : List ContractRow → Result ℕ TableFault → Type 0
+Judged rows (Ok n) = Sound rows × (n ≡ length rows)
+Judged rows (Err fault) = Fails rows fault
 
 -- One answer only is right for a table.
 abbrev pub OneAnswer : List ContractRow → Type 0
-OneAnswer rows = (r s : Result ℕ TableFault) → Checked rows r → Checked rows s → r ≡ s
+OneAnswer rows = (r s : Result ℕ TableFault) → Judged rows r → Judged rows s → r ≡ s
 
 -- Where every next is a row, a chain ends if and only if it reaches none within as many rows as the table has.
 abbrev pub EndsWithinRows : List ContractRow → Type 0

@@ -5,11 +5,10 @@ use Prim.Native.Nat.{ℕ}
 use Rattle.std.specs.declared.option.Option.{Option}
 use Rattle.std.specs.declared.option.Option.the-variants.{Some, None}
 use Rattle.std.specs.declared.result.Result.the-variants.{Ok, Err}
-use Rattle.refusals.specs.declared.Refusal.{Refusal}
 use Rattle.refusals.specs.declared.Layer.the-variants.{Table}
 use Rattle.contracts.specs.declared.rows.ContractRow.{ContractRow}
 use Rattle.contracts.specs.declared.faults.TableFault.the-variants.{Endless}
-use Rattle.contracts.specs.Check.{Checked}
+use Rattle.contracts.specs.Check.{Judged}
 use Rattle.contracts.specs.Refusals.{table-refusal}
 
 -- a row of capacity 1,000,000 from node 7 to node 7
@@ -26,6 +25,6 @@ joined = leading-to (Some 2) ∷ leading-to (Some 2) ∷ leading-to None ∷ []
 
 -- the first is refused with 5 at row 0, and the second passes
 pub record Figures : Type 0 where
-  pub circle-refused : Checked circle (Err (Endless 0))
+  pub circle-refused : Judged circle (Err (Endless 0))
   pub number-five : table-refusal (Endless 0) ≡ record { number = 5; layer = Table; place = 0 }
-  pub joined-passes : Checked joined (Ok 3)
+  pub joined-passes : Judged joined (Ok 3)

@@ -1,6 +1,6 @@
 ghost use Prim.Native.Nat.{_+_, _<_, _≤_};
-ghost use Rattle.contracts.specs.Chains.{Each, Ends, Leads, LeadsAt, Light, LightAt, Lowest, Meets, MeetsAt};
-ghost use Rattle.contracts.specs.Check.{Checked, EndsWithinRows, OneAnswer};
+ghost use Rattle.contracts.specs.Chains.{Each, Ends, Leads, LeadsAt, LightAt, Lowest, Meets, MeetsAt};
+ghost use Rattle.contracts.specs.Check.{Judged, EndsWithinRows, OneAnswer};
 ghost use Rattle.contracts.specs.Figures.{Figures};
 ghost use Rattle.contracts.specs.Walks.{Walked};
 ghost use Rattle.std.specs.Options.{Cases as BySome};
@@ -103,7 +103,7 @@ fn first_endless(rows: &[ContractRow]) -> Option<usize>
 
 // The tests, one after the other, each over all rows before the next begins.
 fn judge(rows: &[ContractRow]) -> Result<usize, TableFault>
-    ensures { λ r. ⌜ Checked (now (rows .entry)) r ⌝ }
+    ensures { λ r. ⌜ Judged (now (rows .entry)) r ⌝ }
 {
     if rows.len() > MAX_ROWS {
         return Err(TableFault::TooManyRows);
@@ -125,7 +125,7 @@ fn judge(rows: &[ContractRow]) -> Result<usize, TableFault>
 
 /// Checks the whole table and answers how many rows it has, or the first test that fails with the lowest row.
 pub fn check_contracts(rows: &[ContractRow]) -> Result<usize, TableFault>
-    ensures checked { λ r. ⌜ Checked (now (rows .entry)) r ⌝ }
+    ensures checked { λ r. ⌜ Judged (now (rows .entry)) r ⌝ }
     ensures only { λ _. ⌜ OneAnswer (now (rows .entry)) ⌝ }
     ensures within { λ _. ⌜ EndsWithinRows (now (rows .entry)) ⌝ }
     ensures figures { λ _. ⌜ Figures ⌝ }

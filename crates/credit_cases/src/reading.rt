@@ -10,11 +10,11 @@ use std::str::SplitWhitespace;
 
 /// One case of the test: a contract table, the records of the nodes, and the chain that credits are asked for.
 #[derive(Drop)]
-pub struct Case {
-    pub rows: Vec<ContractRow>,
-    pub nodes: Vec<NodeRecord>,
-    pub head: usize,
-    pub schedule: Schedule,
+pub(super) struct Case {
+    pub(super) rows: Vec<ContractRow>,
+    pub(super) nodes: Vec<NodeRecord>,
+    pub(super) head: usize,
+    pub(super) schedule: Schedule,
 }
 
 // The next word.
@@ -67,8 +67,8 @@ fn nodes(heap: Global, text: &str) -> Result<Vec<NodeRecord>, AnyError> {
     Ok(nodes)
 }
 
-/// Reads a case from its line.
-pub fn read(heap: Global, line: &str) -> Result<Case, AnyError> {
+// Reads a case from its line.
+pub(super) fn read(heap: Global, line: &str) -> Result<Case, AnyError> {
     let mut parts = line.split('|');
     let rows = rows(heap, parts.next().ok_or("no rows")?)?;
     let nodes = nodes(heap, parts.next().ok_or("no nodes")?)?;

@@ -1,16 +1,16 @@
 -- Inner legs cancel. Assumes nothing.
-use mathlib.Core.Path.{_≡_, refl, sym, ap, subst, _∙_}
+use mathlib.Core.Path.{_≡_, refl, ap}
 use mathlib.Core.List.{List, [], _∷_}
-use Prim.Native.Nat.{ℕ, _<_, _≤_}
+use Prim.Native.Nat.{ℕ, _<_}
 use native.Mathlib.Omega.{arith}
 use lib.ListN.{length}
-use lib.IntN.{ℤ, pos, natAbs, _+ℤ_, _-ℤ_}
+use lib.IntN.{ℤ, pos, _+ℤ_, _-ℤ_}
 use Rattle.std.specs.Iters.{folded}
 use Rattle.std.specs.declared.option.Option.{Option}
 use Rattle.std.specs.declared.option.Option.the-variants.{Some, None}
 use Rattle.std.proofs.shelf.Signed.{ints}
 use Rattle.contracts.specs.declared.rows.ContractRow.{ContractRow}
-use Rattle.contracts.specs.Chains.{row-at, Chain, done, goes, Sound}
+use Rattle.contracts.specs.Chains.{row-at, Chain, goes, Sound}
 use Rattle.credits.specs.declared.nodes.NodeRecord.{NodeRecord}
 use Rattle.credits.specs.Chains.{credits, total, last-row, chain-fault, InnerLegsCancel, TotalWithin}
 use Rattle.credits.specs.Faults.{first-fault, row-fault}

@@ -1,7 +1,7 @@
 -- The credits of a chain, written row by row. Assumes nothing.
 use mathlib.Core.Path.{_≡_, refl, sym, ap, subst, _∙_}
 use mathlib.Core.List.{List, [], _∷_, _++_}
-use Prim.Native.Nat.{ℕ, _+_, _<_, _≤_}
+use Prim.Native.Nat.{ℕ, _+_, _<_}
 use native.Mathlib.Omega.{arith}
 use lib.ListN.{length, take, set}
 use lib.IntN.{ℤ}
@@ -15,7 +15,7 @@ use Rattle.contracts.proofs.Sounds.{sound-chain}
 use Rattle.credits.specs.declared.nodes.NodeRecord.{NodeRecord}
 use Rattle.credits.specs.declared.faults.PriceFault.{PriceFault}
 use Rattle.credits.specs.Chains.{credits, chain-fault}
-use Rattle.credits.specs.Faults.{first-fault, row-fault}
+use Rattle.credits.specs.Faults.{row-fault}
 use Rattle.credits.specs.Legs.{row-credit}
 
 module _ (rows : List ContractRow) (nodes : List NodeRecord) (b : ℤ) where

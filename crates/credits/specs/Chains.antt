@@ -10,28 +10,21 @@ use Rattle.std.specs.Iters.{folded}
 use Rattle.std.specs.declared.option.Option.{Option}
 use Rattle.std.specs.declared.option.Option.the-variants.{Some, None}
 use Rattle.std.specs.declared.result.Result.{Result}
-use Rattle.std.specs.declared.result.Result.the-variants.{Ok, Err}
 use Rattle.contracts.specs.declared.rows.ContractRow.{ContractRow}
 use Rattle.contracts.specs.declared.faults.TableFault.the-variants.{NoHead}
 use Rattle.contracts.specs.Chains.{row-at, head-of, Chain, carried}
 use Rattle.credits.specs.declared.nodes.NodeRecord.{NodeRecord}
 use Rattle.credits.specs.declared.schedule.Schedule.{Schedule}
 use Rattle.credits.specs.declared.credited.ChainCredits.{ChainCredits}
-use Rattle.credits.specs.declared.quantities.BalancedQuantity.{BalancedQuantity}
 use Rattle.credits.specs.declared.faults.PriceFault.{PriceFault}
 use Rattle.credits.specs.declared.faults.CreditFault.{CreditFault}
 use Rattle.credits.specs.declared.faults.CreditFault.the-variants.{Table, Quantity, Prices}
-use Rattle.credits.specs.Faults.{first-fault, row-fault}
+use Rattle.credits.specs.Faults.{AnswersBy, first-fault, row-fault}
 use Rattle.credits.specs.Legs.{node-leg, row-credit}
 
 -- the balanced quantity b: the least of demand, supply and the capacities along the chain, less the day-ahead portion
 abbrev pub balanced : List ContractRow → List ℕ → Schedule → ℤ
 balanced rows is s = pos (carried rows (min (s .demand) (s .supply)) is) -ℤ pos (s .«day_ahead»)
-
--- the answer is this quantity, unless there is a fault, which is then the answer
-abbrev pub Balanced : Option CreditFault → ℤ → Result BalancedQuantity CreditFault → Type 0
-Balanced fault b (Ok q) = (fault ≡ None) × (q .«milli_mwh» ≡ b)
-Balanced fault b (Err f) = fault ≡ Some f
 
 -- the credit of each row, in the chain's order
 abbrev pub credits : List ContractRow → List NodeRecord → ℤ → List ℕ → List ℤ
@@ -66,16 +59,11 @@ credit-fault rows head nodes s is = first-fault (head-fault rows head) (first-fa
 abbrev pub cents-of : ChainCredits → List ℤ
 cents-of c = take (c .count) (c .cents)
 
--- the answer holds these cents, unless there is a fault, which is then the answer
-abbrev pub Gives : {F : Type 0} → Option F → List ℤ → Result ChainCredits F → Type 0
-Gives fault cents (Ok c) = (fault ≡ None) × (cents-of c ≡ cents)
-Gives fault cents (Err f) = fault ≡ Some f
-
 -- What a call answers for the chain from row `head`: the credits of its rows, or the first fault.
 pub record Credited (rows : List ContractRow) (head : ℕ) (nodes : List NodeRecord) (s : Schedule) (r : Result ChainCredits CreditFault) : Type 0 where
   pub members : List ℕ
   pub chain : Chain rows (head-of rows head) members
-  pub gives : Gives (credit-fault rows head nodes s members) (credits rows nodes (balanced rows members s) members) r
+  pub gives : AnswersBy cents-of (credit-fault rows head nodes s members) (credits rows nodes (balanced rows members s) members) r
 
 -- the sum of credits
 abbrev pub total : List ℤ → ℤ

@@ -48,7 +48,11 @@ first-fault None later = later
 abbrev pub row-fault : List NodeRecord → ContractRow → Option PriceFault
 row-fault nodes row = first-fault (node-fault nodes (row .receipt)) (node-fault nodes (row .delivery))
 
--- a call answers the value, unless there is a fault, which it then answers
+-- a call answers what shows the value, unless there is a fault, which it then answers
+abbrev pub AnswersBy : {A B F : Type 0} → (A → B) → Option F → B → Result A F → Type 0
+AnswersBy view fault value (Ok x) = (fault ≡ None) × (view x ≡ value)
+AnswersBy view fault value (Err f) = fault ≡ Some f
+
+-- the same, where the answer is the value itself
 abbrev pub Answers : {A F : Type 0} → Option F → A → Result A F → Type 0
-Answers fault value (Ok x) = (fault ≡ None) × (x ≡ value)
-Answers fault value (Err f) = fault ≡ Some f
+Answers fault value r = AnswersBy (λ x. x) fault value r

@@ -1,9 +1,8 @@
 // The credits along a chain of contract rows.
 ghost use Prim.Native.Nat.{ℕ, min, _≤_};
 ghost use Rattle.contracts.specs.Chains.{Chain, carried, head-of};
-ghost use Rattle.credits.specs.Chains.{Balanced, Credited, Gives, InnerLegsCancel, TotalWithin, balanced, chain-fault, credit-fault, credits, head-fault, over-limit, schedule-fault};
-ghost use Rattle.credits.specs.Faults.{Answers, first-fault};
-ghost use Rattle.std.specs.declared.option.Option.the-variants.{Some};
+ghost use Rattle.credits.specs.Chains.{Credited, InnerLegsCancel, TotalWithin, balanced, cents-of, chain-fault, credit-fault, credits, head-fault, over-limit, schedule-fault};
+ghost use Rattle.credits.specs.Faults.{Answers, AnswersBy, first-fault};
 ghost use denote.Ref.{now};
 ghost use lib.IntN.{pos, _-ℤ_};
 ghost use mathlib.Core.List.{List};
@@ -68,7 +67,7 @@ pub fn balanced_quantity(
     head: usize,
     schedule: Schedule,
 ) -> Result<BalancedQuantity, CreditFault>
-    ensures { λ r. ⌜ ((is : List ℕ) → Chain (now (now (table .entry) .rows)) (head-of (now (now (table .entry) .rows)) head) is → Balanced (first-fault (head-fault (now (now (table .entry) .rows)) head) (schedule-fault schedule)) (balanced (now (now (table .entry) .rows)) is schedule) r) ⌝ }
+    ensures { λ r. ⌜ ((is : List ℕ) → Chain (now (now (table .entry) .rows)) (head-of (now (now (table .entry) .rows)) head) is → AnswersBy (λ q. q .«milli_mwh») (first-fault (head-fault (now (now (table .entry) .rows)) head) (schedule-fault schedule)) (balanced (now (now (table .entry) .rows)) is schedule) r) ⌝ }
 {
     table.check_head(head)?;
     check_schedule(schedule)?;
@@ -82,7 +81,7 @@ fn credits_along(
     nodes: &[NodeRecord],
     b: BalancedQuantity,
 ) -> Result<ChainCredits, PriceFault>
-    ensures { λ r. ⌜ ((is : List ℕ) → Chain (now (walk .entry .rows)) (walk .entry .place) is → Gives (chain-fault (now (walk .entry .rows)) (now (nodes .entry)) is) (credits (now (walk .entry .rows)) (now (nodes .entry)) (b .«milli_mwh») is) r) ⌝ }
+    ensures { λ r. ⌜ ((is : List ℕ) → Chain (now (walk .entry .rows)) (walk .entry .place) is → AnswersBy cents-of (chain-fault (now (walk .entry .rows)) (now (nodes .entry)) is) (credits (now (walk .entry .rows)) (now (nodes .entry)) (b .«milli_mwh») is) r) ⌝ }
 {
     let mut cents = [0; MAX_ROWS];
     let mut count = 0;
@@ -100,7 +99,7 @@ fn judged_credits(
     nodes: &[NodeRecord],
     schedule: Schedule,
 ) -> Result<ChainCredits, CreditFault>
-    ensures { λ r. ⌜ ((is : List ℕ) → Chain (now (now (table .entry) .rows)) (head-of (now (now (table .entry) .rows)) head) is → Gives (credit-fault (now (now (table .entry) .rows)) head (now (nodes .entry)) schedule is) (credits (now (now (table .entry) .rows)) (now (nodes .entry)) (balanced (now (now (table .entry) .rows)) is schedule) is) r) ⌝ }
+    ensures { λ r. ⌜ ((is : List ℕ) → Chain (now (now (table .entry) .rows)) (head-of (now (now (table .entry) .rows)) head) is → AnswersBy cents-of (credit-fault (now (now (table .entry) .rows)) head (now (nodes .entry)) schedule is) (credits (now (now (table .entry) .rows)) (now (nodes .entry)) (balanced (now (now (table .entry) .rows)) is schedule) is) r) ⌝ }
 {
     let b = balanced_quantity(table, head, schedule)?;
     Ok(credits_along(table.chain(head), nodes, b)?)

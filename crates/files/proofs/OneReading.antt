@@ -1,5 +1,5 @@
 -- One answer is right for a file. Assumes nothing.
-use mathlib.Core.Path.{_≡_, refl, sym, ap, subst, _∙_}
+use mathlib.Core.Path.{_≡_, refl, sym, ap, _∙_}
 use mathlib.Core.List.{List, [], _∷_, _++_, append-assoc}
 use native.Mathlib.Omega.{arith}
 use Prim.Native.Nat.{ℕ, _+_, _<_}
@@ -7,7 +7,7 @@ use lib.ListN.{length, length-append}
 use Rattle.std.specs.shelf.Lists.{All, joined}
 use Rattle.std.proofs.shelf.Lists.{append-nil, append-cancel-left}
 use Rattle.files.specs.Fields.{NoFront, OneFront}
-use Rattle.files.specs.Files.{ReadsAs, FirstUnreadable, OneAnswer}
+use Rattle.files.specs.Files.{OneAnswer}
 
 module _ {Row : Type 0} (line : Row → List ℕ) (Writable : Row → Type 0) (some : (row : Row) → 0 < length (line row)) (one : OneFront line Writable) where
   -- no bytes begin with no line

@@ -1,5 +1,4 @@
 use mathlib.Core.Path.{sym}
-use borrow.Author.Needs.{needs}
 use Rattle.contract_report.proofs.refused_text.Needs as need
 
 pub returns : need.returns

@@ -1,6 +1,3 @@
-use mathlib.Core.Path.{_≡_}
-use mathlib.Core.List.{_++_}
-use lib.ListN.{length}
 use Rattle.std.specs.Of.String.{string-bytes}
 use Rattle.contract_report.proofs.Joining.{Printed}
 use Rattle.contract_report.proofs.chains.table_text.Given as given

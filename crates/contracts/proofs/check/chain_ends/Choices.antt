@@ -1,5 +1,3 @@
-use Prim.Native.Nat.{ℕ, _≤_}
-use lib.ListN.{length}
 use Rattle.contracts.proofs.Marking.{Walking, unseen}
 use Rattle.contracts.proofs.Walks.{Inside}
 use Rattle.contracts.proofs.check.chain_ends.Given as given

@@ -1,4 +1,4 @@
-use mathlib.Core.Path.{_≡_, ap, sym, _∙_}
+use mathlib.Core.Path.{ap, sym, _∙_}
 use Prim.Native.Nat.{_<_}
 use native.Mathlib.Omega.{arith}
 use lib.ListN.{length}
@@ -8,7 +8,6 @@ use borrow.Author.Needs.{needs}
 use Rattle.std.proofs.shelf.Lists.{length-set}
 use Rattle.std.proofs.shelf.Results.{err-from-errBy}
 use Rattle.std.proofs.shelf.Signed.{toZ-ofZ}
-use Rattle.std.specs.declared.option.Option.the-variants.{Some, None}
 use Rattle.contracts.specs.Chains.{row-at}
 use Rattle.contracts.proofs.Sounds.{sound-of}
 use Rattle.credits.specs.Faults.{row-fault}
