@@ -21,8 +21,8 @@ module _ {Row : Type 0} (line : Row → List ℕ) (Writable : Row → Type 0) (s
   same-rows (x ∷ xs) [] left right a b p q e = absurd (q x (joined line xs ++ left) (a .0) (sym e ∙ append-assoc (line x) (joined line xs) left))
   same-rows (x ∷ xs) (y ∷ ys) left right a b p q e =
       let same = one (joined line (x ∷ xs) ++ left) x y (joined line xs ++ left) (joined line ys ++ right)
-          (record { fine = a .0; written = append-assoc (line x) (joined line xs) left })
-          (record { fine = b .0; written = e ∙ append-assoc (line y) (joined line ys) right }) in
+      (record { fine = a .0; written = append-assoc (line x) (joined line xs) left })
+      (record { fine = b .0; written = e ∙ append-assoc (line y) (joined line ys) right }) in
       let rest = same-rows xs ys left right (a .1) (b .1) p q (same .1) in
       ap (λ z. z ∷ xs) (same .0) ∙ ap (λ zs. y ∷ zs) rest
 
