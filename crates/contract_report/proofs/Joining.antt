@@ -14,7 +14,7 @@ use Rattle.std.proofs.shelf.Tests.{cases-lt}
 use Rattle.contracts.specs.declared.rows.ContractRow.{ContractRow}
 use Rattle.contracts.specs.Chains.{row-at}
 use Rattle.contracts.proofs.Folding.{Folding, folding-more}
-use Rattle.contract_report.specs.Report.{row-line, row-words, PrintedAt, Chains, count-line}
+use Rattle.contract_report.specs.Report.{row-line, row-words, PrintedAt, ChainsText, count-line}
 
 -- the text so far, and the line of one more row
 abbrev pub with-line : List ContractRow → ℕ → List ℕ → ℕ → List ℕ
@@ -54,6 +54,6 @@ printed-more rows n text part after here more p =
       whole = more ∙ ap (λ t. t ++ part) (p .whole) ∙ joined-more (λ x. x) (count-line (length rows)) (p .parts) part;
     }
 
-pub printed-all : (rows : List ContractRow) (n : ℕ) (text : List ℕ) → n ≡ length rows → Printed rows n text → Chains rows text
+pub printed-all : (rows : List ContractRow) (n : ℕ) (text : List ℕ) → n ≡ length rows → Printed rows n text → ChainsText rows text
 printed-all rows n text e p =
     record { parts = p .parts; each-row = p .long ∙ e; printed = λ i h. p .each i (omega arith); whole = p .whole }

@@ -10,13 +10,13 @@ use Rattle.contracts.specs.declared.rows.ContractRow.{ContractRow}
 use Rattle.contracts.specs.declared.faults.TableFault.{TableFault}
 use Rattle.contracts.specs.Check.{Judged, Fails, OneAnswer}
 use Rattle.contracts.specs.Refusals.{table-refusal}
-use Rattle.contract_report.specs.Report.{Chains, Report, refusal-line}
+use Rattle.contract_report.specs.Report.{ChainsText, Report, refusal-line}
 
 -- no count is a fault
 ok-not-err : (n : ℕ) (f : TableFault) → Ok n ≡ Err f → ⊥
 ok-not-err n f e = let z : _≡_ {A = ℕ} 0 1 = cc in omega arith
 
-pub report-passed : (rows : List ContractRow) (n : ℕ) (text : List ℕ) → OneAnswer rows → Judged rows (Ok n) → Chains rows text → Report rows text
+pub report-passed : (rows : List ContractRow) (n : ℕ) (text : List ℕ) → OneAnswer rows → Judged rows (Ok n) → ChainsText rows text → Report rows text
 report-passed rows n text one checked chains =
     record {
       passes = λ _. chains;

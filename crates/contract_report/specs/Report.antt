@@ -42,7 +42,7 @@ abbrev pub refusal-line : Refusal → List ℕ
 refusal-line r = codes "contracts: " ++ (refusal-words r ++ codes "\n")
 
 -- What is printed of a table that passes: the row count, and then what is printed at each row in turn.
-pub record Chains (rows : List ContractRow) (text : List ℕ) : Type 0 where
+pub record ChainsText (rows : List ContractRow) (text : List ℕ) : Type 0 where
   pub parts : List (List ℕ)
   pub each-row : length parts ≡ length rows
   pub printed : (i : ℕ) → i < length rows → PrintedAt rows i (getD parts i [])
@@ -50,5 +50,5 @@ pub record Chains (rows : List ContractRow) (text : List ℕ) : Type 0 where
 
 -- What is printed of any table: of one that fails, the refusal alone.
 pub record Report (rows : List ContractRow) (text : List ℕ) : Type 0 where
-  pub passes : Sound rows → Chains rows text
+  pub passes : Sound rows → ChainsText rows text
   pub fails : (fault : TableFault) → Fails rows fault → text ≡ refusal-line (table-refusal fault)

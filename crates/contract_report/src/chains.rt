@@ -1,6 +1,6 @@
 // The chains of a table, a line for each row.
 ghost use Prim.Native.Nat.{ℕ};
-ghost use Rattle.contract_report.specs.Report.{Chains, PrintedAt, chain-lines, count-line, row-words};
+ghost use Rattle.contract_report.specs.Report.{ChainsText, PrintedAt, chain-lines, count-line, row-words};
 ghost use Rattle.contracts.specs.Chains.{Chain};
 ghost use Rattle.std.specs.Of.String.{string-bytes};
 ghost use Rattle.std.specs.Vec.{made};
@@ -53,7 +53,7 @@ fn count_text(heap: Global, count: usize) -> Result<String, AllocError>
 
 // The row count of a table, and what is printed at each of its rows.
 pub(super) fn table_text(heap: Global, table: &CheckedTable) -> Result<String, AllocError>
-    ensures { λ r. ⌜ made r (λ text. Chains (now (now (table .entry) .rows)) (string-bytes text)) ⌝ }
+    ensures { λ r. ⌜ made r (λ text. ChainsText (now (now (table .entry) .rows)) (string-bytes text)) ⌝ }
 {
     let mut text = count_text(heap, table.len())?;
     for place in 0..table.len() {

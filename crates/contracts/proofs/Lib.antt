@@ -1,4 +1,5 @@
 mod Answer
+mod Carrying
 pub mod Folding
 mod Marking
 pub mod Pigeons

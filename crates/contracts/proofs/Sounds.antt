@@ -20,7 +20,7 @@ pub sound-empty : Sound []
 sound-empty =
     record {
       small = omega arith;
-      light = λ i h. absurd (omega arith);
+      capacities = λ i h. absurd (omega arith);
       leads = λ i h. absurd (omega arith);
       meets = λ i h. absurd (omega arith);
       ends = λ i h. absurd (omega arith);
@@ -32,7 +32,7 @@ pub sound-of : (rows : List ContractRow) → ∥ Sound rows ∥₁ → Sound row
 sound-of rows t =
     record {
       small = ∥∥₁-elim t le-prop (λ s. s .small);
-      light = λ i h. ∥∥₁-elim t le-prop (λ s. s .light i h);
+      capacities = λ i h. ∥∥₁-elim t le-prop (λ s. s .capacities i h);
       leads = λ i h. record { in-table = λ j l. ∥∥₁-elim t le-prop (λ s. s .leads i h .in-table j l) };
       meets = λ i h. record { node = λ j l. ∥∥₁-elim t (ℕ-set _ _) (λ s. s .meets i h .node j l) };
       ends = λ i h. ended i (∥∥₁-elim t (ℕ-set _ _) (λ s. within i h s));

@@ -20,11 +20,11 @@ abbrev pub circle : List ContractRow
 circle = leading-to (Some 1) ∷ leading-to (Some 2) ∷ leading-to (Some 1) ∷ []
 
 -- rows 0 and 1 both lead to row 2, the last
-abbrev pub joined : List ContractRow
-joined = leading-to (Some 2) ∷ leading-to (Some 2) ∷ leading-to None ∷ []
+abbrev pub joining : List ContractRow
+joining = leading-to (Some 2) ∷ leading-to (Some 2) ∷ leading-to None ∷ []
 
 -- the first is refused with 5 at row 0, and the second passes
 pub record Figures : Type 0 where
   pub circle-refused : Judged circle (Err (Endless 0))
   pub number-five : table-refusal (Endless 0) ≡ record { number = 5; layer = Table; place = 0 }
-  pub joined-passes : Judged joined (Ok 3)
+  pub joining-passes : Judged joining (Ok 3)

@@ -7,8 +7,8 @@ use Rattle.std.specs.declared.option.Option.the-variants.{Some, None}
 use Rattle.contracts.specs.declared.rows.ContractRow.{ContractRow}
 use Rattle.contracts.specs.Chains.{row-at, Ends}
 
--- The check of chains: n walks were made, and all ended. A row that one of them saw first has its number, from 1 to n, and
--- any other row has 0.
+-- The check of chains: n walks were made, and all ended. A row has the number of the walk that saw it first, or 0 if none
+-- did: no number is above n, and a row with one is known to end.
 pub record Walked (rows : List ContractRow) (n : ℕ) (walks : List ℕ) : Type 0 where
   pub low : (k : ℕ) → getD walks k 0 ≤ n
   pub ends : (k : ℕ) → 0 < getD walks k 0 → Ends rows k

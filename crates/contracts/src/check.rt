@@ -1,6 +1,6 @@
 ghost use Prim.Native.Nat.{_+_, _<_, _≤_};
-ghost use Rattle.contracts.specs.Chains.{Each, Ends, Leads, LeadsAt, LightAt, Lowest, Meets, MeetsAt};
-ghost use Rattle.contracts.specs.Check.{Judged, EndsWithinRows, OneAnswer};
+ghost use Rattle.contracts.specs.Chains.{Each, Ends, NextInTable, NextInTableAt, CapacityWithinAt, Lowest, Meets, MeetsAt};
+ghost use Rattle.contracts.specs.Check.{Judged, OneAnswer, WithinRows};
 ghost use Rattle.contracts.specs.Figures.{Figures};
 ghost use Rattle.contracts.specs.Walks.{Walked};
 ghost use Rattle.std.specs.Options.{Cases as BySome};
@@ -17,8 +17,8 @@ pub const MAX_ROWS: usize = 256;
 /// The largest capacity of a row.
 pub const MAX_CAPACITY_MILLI_MW: u32 = 1_000_000;
 
-fn leads(rows: &[ContractRow], row: &ContractRow) -> bool
-    ensures { λ r. ⌜ Decides r (Leads (now (rows .entry)) (now (row .entry))) ⌝ }
+fn next_in_table(rows: &[ContractRow], row: &ContractRow) -> bool
+    ensures { λ r. ⌜ Decides r (NextInTable (now (rows .entry)) (now (row .entry))) ⌝ }
 {
     match row.next {
         Some(next) => next < rows.len(),
@@ -27,7 +27,7 @@ fn leads(rows: &[ContractRow], row: &ContractRow) -> bool
 }
 
 fn meets(rows: &[ContractRow], row: &ContractRow) -> bool
-    requires { ⌜ Leads (now rows) (now row) ⌝ }
+    requires { ⌜ NextInTable (now rows) (now row) ⌝ }
     ensures { λ r. ⌜ Decides r (Meets (now (rows .entry)) (now (row .entry))) ⌝ }
 {
     match row.next {
@@ -37,7 +37,7 @@ fn meets(rows: &[ContractRow], row: &ContractRow) -> bool
 }
 
 fn first_over_capacity(rows: &[ContractRow]) -> Option<usize>
-    ensures { λ r. ⌜ BySome r (Each LightAt (now (rows .entry))) (Lowest LightAt (now (rows .entry))) ⌝ }
+    ensures { λ r. ⌜ BySome r (Each CapacityWithinAt (now (rows .entry))) (Lowest CapacityWithinAt (now (rows .entry))) ⌝ }
 {
     for (i, row) in rows.iter().enumerate() {
         if row.capacity > MAX_CAPACITY_MILLI_MW {
@@ -47,11 +47,11 @@ fn first_over_capacity(rows: &[ContractRow]) -> Option<usize>
     None
 }
 
-fn first_without_next(rows: &[ContractRow]) -> Option<usize>
-    ensures { λ r. ⌜ BySome r (Each LeadsAt (now (rows .entry))) (Lowest LeadsAt (now (rows .entry))) ⌝ }
+fn first_leading_out(rows: &[ContractRow]) -> Option<usize>
+    ensures { λ r. ⌜ BySome r (Each NextInTableAt (now (rows .entry))) (Lowest NextInTableAt (now (rows .entry))) ⌝ }
 {
     for (i, row) in rows.iter().enumerate() {
-        if !leads(rows, row) {
+        if !next_in_table(rows, row) {
             return Some(i);
         }
     }
@@ -59,7 +59,7 @@ fn first_without_next(rows: &[ContractRow]) -> Option<usize>
 }
 
 fn first_apart(rows: &[ContractRow]) -> Option<usize>
-    requires { ⌜ Each LeadsAt (now rows) ⌝ }
+    requires { ⌜ Each NextInTableAt (now rows) ⌝ }
     ensures { λ r. ⌜ BySome r (Each MeetsAt (now (rows .entry))) (Lowest MeetsAt (now (rows .entry))) ⌝ }
 {
     for (i, row) in rows.iter().enumerate() {
@@ -71,9 +71,9 @@ fn first_apart(rows: &[ContractRow]) -> Option<usize>
 }
 
 // Walks from row `first` and writes the walk's number at each new row. A row that an earlier walk saw is known to end;
-// one that this walk saw closes a circle. So all walks together see each row once.
+// one that this walk saw closes a circle. So all walks together write at each row once.
 fn chain_ends(rows: &[ContractRow], first: usize, walks: &mut [usize]) -> bool
-    requires { ⌜ Each LeadsAt (now rows) ⌝ ∗ ⌜ first < length (now rows) ⌝ ∗ ⌜ length (now rows) ≤ length (now walks) ⌝ ∗ ⌜ Walked (now rows) first (now walks) ⌝ }
+    requires { ⌜ Each NextInTableAt (now rows) ⌝ ∗ ⌜ first < length (now rows) ⌝ ∗ ⌜ length (now rows) ≤ length (now walks) ⌝ ∗ ⌜ Walked (now rows) first (now walks) ⌝ }
     ensures ends { λ r. ⌜ Decides r (Ends (now (rows .entry)) first) ⌝ }
     ensures walked { λ r. ⌜ (r ≡ true → Walked (now (rows .entry)) (first + 1) (now (walks .exit))) ⌝ }
 {
@@ -89,7 +89,7 @@ fn chain_ends(rows: &[ContractRow], first: usize, walks: &mut [usize]) -> bool
 }
 
 fn first_endless(rows: &[ContractRow]) -> Option<usize>
-    requires { ⌜ Each LeadsAt (now rows) ⌝ ∗ ⌜ length (now rows) ≤ 256 ⌝ }
+    requires { ⌜ Each NextInTableAt (now rows) ⌝ ∗ ⌜ length (now rows) ≤ 256 ⌝ }
     ensures { λ r. ⌜ BySome r (Each Ends (now (rows .entry))) (Lowest Ends (now (rows .entry))) ⌝ }
 {
     let mut walks = [0; MAX_ROWS];
@@ -111,8 +111,8 @@ fn judge(rows: &[ContractRow]) -> Result<usize, TableFault>
     if let Some(row) = first_over_capacity(rows) {
         return Err(TableFault::Capacity(row));
     }
-    if let Some(row) = first_without_next(rows) {
-        return Err(TableFault::NoNext(row));
+    if let Some(row) = first_leading_out(rows) {
+        return Err(TableFault::NextNoRow(row));
     }
     if let Some(row) = first_apart(rows) {
         return Err(TableFault::NodesApart(row));
@@ -127,7 +127,7 @@ fn judge(rows: &[ContractRow]) -> Result<usize, TableFault>
 pub fn check_contracts(rows: &[ContractRow]) -> Result<usize, TableFault>
     ensures checked { λ r. ⌜ Judged (now (rows .entry)) r ⌝ }
     ensures only { λ _. ⌜ OneAnswer (now (rows .entry)) ⌝ }
-    ensures within { λ _. ⌜ EndsWithinRows (now (rows .entry)) ⌝ }
+    ensures within { λ _. ⌜ (Each NextInTableAt (now (rows .entry)) → WithinRows (now (rows .entry))) ⌝ }
     ensures figures { λ _. ⌜ Figures ⌝ }
 {
     judge(rows)

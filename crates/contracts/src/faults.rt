@@ -8,7 +8,7 @@ use refusals::Refusal;
 pub enum TableFault {
     TooManyRows,
     Capacity(usize),
-    NoNext(usize),
+    NextNoRow(usize),
     NodesApart(usize),
     Endless(usize),
     /// The row that a chain is to begin at is none of the table.
@@ -16,14 +16,14 @@ pub enum TableFault {
 }
 
 impl TableFault {
-    /// The number and the place under which the fault is reported.
+    /// The number, layer and place under which the fault is reported.
     pub fn refusal(self) -> Refusal
         ensures { λ r. ⌜ r ≡ table-refusal self ⌝ }
     {
         let (number, place) = match self {
             TableFault::TooManyRows => (1, 0),
             TableFault::Capacity(row) => (2, row),
-            TableFault::NoNext(row) => (3, row),
+            TableFault::NextNoRow(row) => (3, row),
             TableFault::NodesApart(row) => (4, row),
             TableFault::Endless(row) => (5, row),
             TableFault::NoHead => (13, 0),

@@ -1,4 +1,5 @@
-/// A row of a contract table: a segment of a transmission contract, from a receipt node to a delivery node.
+/// A row of a contract table: a segment of a transmission contract, from a receipt node to a delivery node, which is
+/// settled with the billing party.
 /// `capacity` is in thousandths of a MW. `next` is the place, in the table, of the segment that follows this one.
 #[derive(Clone, Copy)]
 pub struct ContractRow {

@@ -1,5 +1,5 @@
 ghost use Prim.Native.Nat.{ℕ, _<_, _≤_};
-ghost use Rattle.contracts.specs.Chains.{Chain, Head, Names, Sound, carried, head-of, row-at};
+ghost use Rattle.contracts.specs.Chains.{Chain, Head, LeadsTo, Least, Sound, carried, head-of, row-at};
 ghost use Rattle.contracts.specs.declared.faults.TableFault.the-variants.{NoHead};
 ghost use Rattle.std.specs.Options.{Cases as BySome};
 ghost use Rattle.std.specs.Orderings.{Decides};
@@ -14,8 +14,8 @@ use crate::check::check_contracts;
 use crate::faults::TableFault;
 use crate::rows::ContractRow;
 
-/// A contract table in which every chain ends, every next is a row that begins where the one before it ends, and
-/// capacities are within bounds.
+/// A contract table of at most 256 rows in which every chain ends, every next is a row that begins where the one before
+/// it ends, and capacities are within bounds.
 #[derive(Clone, Copy)]
 pub struct CheckedTable<'a> {
     rows: &'a [ContractRow],
@@ -97,10 +97,12 @@ impl<'a> CheckedTable<'a> {
         place < self.rows.len() && !leads_to(self.rows, place)
     }
 
-    /// How much of a quantity the chain from row `head` carries: the least of it and the capacities along the chain.
+    /// How much of a quantity the chain from row `head` carries: the least of it and the capacities along the chain. Where
+    /// `head` is no row, there are none, and it is the quantity itself.
     pub fn carried(&self, head: usize, quantity: u32) -> u32
         ensures most { λ r. ⌜ r ≤ quantity ⌝ }
         ensures least { λ r. ⌜ ((is : List ℕ) → Chain (now (now (self .entry) .rows)) (head-of (now (now (self .entry) .rows)) head) is → r ≡ carried (now (now (self .entry) .rows)) quantity is) ⌝ }
+        ensures law { λ r. ⌜ ((is : List ℕ) → Chain (now (now (self .entry) .rows)) (head-of (now (now (self .entry) .rows)) head) is → Least (now (now (self .entry) .rows)) quantity is r) ⌝ }
     {
         least_along(self.chain(head), quantity)
     }
@@ -120,7 +122,7 @@ fn passing<'a>(rows: &'a [ContractRow]) -> &'a [ContractRow]
 
 // Whether some row leads to a place.
 fn leads_to(rows: &[ContractRow], place: usize) -> bool
-    ensures { λ r. ⌜ Decides r ((j : ℕ) × (j < length (now (rows .entry))) × Names (now (rows .entry)) place j) ⌝ }
+    ensures { λ r. ⌜ Decides r ((j : ℕ) × (j < length (now (rows .entry))) × LeadsTo (now (rows .entry)) place j) ⌝ }
 {
     for row in rows {
         if row.next == Some(place) {
@@ -134,6 +136,7 @@ fn leads_to(rows: &[ContractRow], place: usize) -> bool
 fn least_along(walk: ChainRows, quantity: u32) -> u32
     ensures most { λ r. ⌜ r ≤ quantity ⌝ }
     ensures least { λ r. ⌜ ((is : List ℕ) → Chain (now (walk .entry .rows)) (walk .entry .place) is → r ≡ carried (now (walk .entry .rows)) quantity is) ⌝ }
+    ensures law { λ r. ⌜ ((is : List ℕ) → Chain (now (walk .entry .rows)) (walk .entry .place) is → Least (now (walk .entry .rows)) quantity is r) ⌝ }
 {
     let mut least = quantity;
     for (_place, row) in walk {

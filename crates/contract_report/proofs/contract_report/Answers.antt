@@ -1,7 +1,7 @@
 use mathlib.Core.Path.{subst}
 use Rattle.std.specs.Of.String.{string-bytes}
 use Rattle.std.proofs.shelf.Results.{made-weaker}
-use Rattle.contract_report.specs.Report.{Chains}
+use Rattle.contract_report.specs.Report.{ChainsText}
 use Rattle.contract_report.proofs.Reporting.{report-passed, report-refused}
 use Rattle.contract_report.proofs.contract_report.Needs as need
 
@@ -10,7 +10,7 @@ returns-in-Ok c =
     let checked = c .in-Ok .ensures tt in
     let kept = c .new .ensures .passed (checked .checked .0) in
     made-weaker (c .table-text .result) _ _
-    (λ text chains. report-passed _ _ _ (checked .only) (checked .checked) (subst (λ rows. Chains rows (string-bytes text)) kept chains))
+    (λ text chains. report-passed _ _ _ (checked .only) (checked .checked) (subst (λ rows. ChainsText rows (string-bytes text)) kept chains))
     (c .table-text .ensures)
 
 pub returns-in-Err : need.returns-in-Err

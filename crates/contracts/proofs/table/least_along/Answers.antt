@@ -1,6 +1,7 @@
 use mathlib.Core.Path.{ap, _∙_}
 use borrow.Author.Needs.{needs}
 use Rattle.contracts.specs.Chains.{carried-by, row-at}
+use Rattle.contracts.proofs.Carrying.{carried-least}
 use Rattle.contracts.proofs.Folding.{folding-none, folding-more, folding-all}
 use Rattle.contracts.proofs.table.least_along.Needs as need
 
@@ -22,7 +23,9 @@ loop-place-again c =
 
 pub returns : need.returns
 returns c =
+    let least = folding-all (carried-by (c .args .walk .rows .now)) _ _ _ _ _ (search needs) (c .loop-place .inv .2) in
     record {
       most = c .loop-place .inv .0;
-      least = folding-all (carried-by (c .args .walk .rows .now)) _ _ _ _ _ (search needs) (c .loop-place .inv .2);
+      least = least;
+      law = λ is chain. carried-least (c .args .walk .rows .now) (c .args .quantity) is (c .loop-place .least) (least is chain);
     }
