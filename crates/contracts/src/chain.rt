@@ -10,7 +10,7 @@ use crate::rows::ContractRow;
 
 /// A walk along a chain of a checked table: the rows in order, each with its place in the table. It needs no counter of
 /// steps, since in such a table every chain ends.
-#[derive(Clone, Copy)]
+#[derive(Drop)]
 pub struct ChainRows<'a> {
     pub(crate) rows: &'a [ContractRow],
     pub(crate) place: Option<usize>,

@@ -1,5 +1,5 @@
 -- Inner legs cancel. Assumes nothing.
-use mathlib.Core.Path.{_≡_, refl, ap}
+use mathlib.Core.Path.{_≡_, refl, ap, subst, _∙_}
 use mathlib.Core.List.{List, [], _∷_}
 use Prim.Native.Nat.{ℕ, _<_}
 use native.Mathlib.Omega.{arith}
@@ -8,12 +8,20 @@ use lib.IntN.{ℤ, pos, _+ℤ_, _-ℤ_}
 use Rattle.std.specs.Iters.{folded}
 use Rattle.std.specs.declared.option.Option.{Option}
 use Rattle.std.specs.declared.option.Option.the-variants.{Some, None}
+use Rattle.std.specs.declared.result.Result.{Result}
+use Rattle.std.specs.declared.result.Result.the-variants.{Ok, Err}
+use Rattle.std.specs.Vec.{made}
 use Rattle.std.proofs.shelf.Signed.{ints}
+use Rattle.std.proofs.shelf.Tests.{lt-ltb}
+use Rattle.std.proofs.shelf.Ways.{tells}
 use Rattle.contracts.specs.declared.rows.ContractRow.{ContractRow}
-use Rattle.contracts.specs.Chains.{row-at, Chain, goes, Sound}
+use Rattle.contracts.specs.Chains.{row-at, head-of, Chain, goes, Sound}
 use Rattle.credits.specs.declared.nodes.NodeRecord.{NodeRecord}
-use Rattle.credits.specs.Chains.{credits, total, last-row, chain-fault, InnerLegsCancel, TotalWithin}
-use Rattle.credits.specs.Faults.{first-fault, row-fault}
+use Rattle.credits.specs.declared.schedule.Schedule.{Schedule}
+use Rattle.credits.specs.declared.credited.ChainCredits.{ChainCredits}
+use Rattle.credits.specs.declared.faults.CreditFault.{CreditFault}
+use Rattle.credits.specs.Chains.{balanced, cents-of, credit-fault, credits, head-fault, total, last-row, outer-legs, chain-fault, InnerLegsCancel, TotalWithin}
+use Rattle.credits.specs.Faults.{AnswersBy, first-fault, row-fault}
 use Rattle.credits.specs.Legs.{node-leg, row-credit}
 use Rattle.credits.proofs.AllLimits.{sound-row, node-leg-le}
 
@@ -33,17 +41,17 @@ chain-first : (rows : List ContractRow) (o : Option ℕ) (k : ℕ) (ks : List �
 chain-first rows o k ks (goes c) = (refl, c)
 
 module _ (rows : List ContractRow) (s : Sound rows) (nodes : List NodeRecord) (b : ℤ) where
-  outer-legs : (i : ℕ) (js : List ℕ) → i < length rows → Chain rows (row-at rows i .next) js → total (credits rows nodes b (i ∷ js)) ≡ node-leg nodes b (row-at rows i .receipt) -ℤ node-leg nodes b (row-at rows (last-row i js) .delivery)
-  outer-legs i [] h c = omega (arith, ints)
-  outer-legs i (k ∷ ks) h c =
+  legs-cancel : (i : ℕ) (js : List ℕ) → i < length rows → Chain rows (row-at rows i .next) js → total (credits rows nodes b (i ∷ js)) ≡ node-leg nodes b (row-at rows i .receipt) -ℤ node-leg nodes b (row-at rows (last-row i js) .delivery)
+  legs-cancel i [] h c = omega (arith, ints)
+  legs-cancel i (k ∷ ks) h c =
       let first = chain-first rows (row-at rows i .next) k ks c in
-      let rest = outer-legs k ks (s .leads i h .in-table k (first .0)) (first .1) in
+      let rest = legs-cancel k ks (s .leads i h .in-table k (first .0)) (first .1) in
       let meet = ap (node-leg nodes b) (s .meets i h .node k (first .0)) in
       let all = total-cons (row-credit nodes b (row-at rows i)) (credits rows nodes b (k ∷ ks)) in
       omega (arith, ints)
 
 pub inner-legs-cancel : (rows : List ContractRow) → Sound rows → InnerLegsCancel rows
-inner-legs-cancel rows s nodes b i is h (goes {is = js} c) = outer-legs rows s nodes b i js h c
+inner-legs-cancel rows s nodes b i is h (goes {is = js} c) = legs-cancel rows s nodes b i js h c
 
 -- where two are judged in turn and there is no fault, neither has one
 pub both-sound : {F : Type 0} (a b : Option F) → first-fault a b ≡ None → (a ≡ None) × (b ≡ None)
@@ -64,5 +72,16 @@ total-within rows s nodes b i is small h (goes {is = js} c) sound =
     let last = sound-row nodes (row-at rows (last-row i js)) (last-sound rows nodes i js sound) in
     let receipt = node-leg-le nodes b (row-at rows i .receipt) small (first .0) in
     let delivery = node-leg-le nodes b (row-at rows (last-row i js) .delivery) small (last .1) in
-    let legs = outer-legs rows s nodes b i js h c in
+    let legs = legs-cancel rows s nodes b i js h c in
     omega (arith, ints)
+
+-- credits that are answered add up to the outer legs
+pub answer-adds-up : (rows : List ContractRow) (head : ℕ) (nodes : List NodeRecord) (s : Schedule) (is : List ℕ) (r : Result ChainCredits CreditFault) → Sound rows → Chain rows (head-of rows head) is → AnswersBy cents-of (credit-fault rows head nodes s is) (credits rows nodes (balanced rows is s) is) r → made r (λ c. total (cents-of c) ≡ outer-legs rows nodes (balanced rows is s) head is)
+answer-adds-up rows head nodes s is (Err f) sound chain answer = tt
+answer-adds-up rows head nodes s is (Ok c) sound chain answer =
+    let here = head-row rows head (both-sound (head-fault rows head) _ (answer .0) .0) in
+    let starts : head-of rows head ≡ Some head = rw (lt-ltb head (length rows) here) refl in
+    ap total (answer .1) ∙ inner-legs-cancel rows sound nodes (balanced rows is s) head is here (subst (λ o. Chain rows o is) starts chain)
+  where
+    head-row : (rs : List ContractRow) (i : ℕ) → head-fault rs i ≡ None → i < length rs
+    head-row rs i e = grind (arith, tells)

@@ -7,6 +7,7 @@ use lib.Dec.{leb, ltb}
 use lib.ListN.{length, take}
 use lib.IntN.{ℤ, pos, natAbs, _+ℤ_, _-ℤ_}
 use Rattle.std.specs.Iters.{folded}
+use Rattle.std.specs.Vec.{made}
 use Rattle.std.specs.declared.option.Option.{Option}
 use Rattle.std.specs.declared.option.Option.the-variants.{Some, None}
 use Rattle.std.specs.declared.result.Result.{Result}
@@ -17,6 +18,8 @@ use Rattle.credits.specs.declared.nodes.NodeRecord.{NodeRecord}
 use Rattle.credits.specs.declared.schedule.Schedule.{Schedule}
 use Rattle.credits.specs.declared.credited.ChainCredits.{ChainCredits}
 use Rattle.credits.specs.declared.faults.PriceFault.{PriceFault}
+use Rattle.credits.specs.declared.faults.Scheduled.{Scheduled}
+use Rattle.credits.specs.declared.faults.Scheduled.the-variants.{Demand, Supply, DayAhead}
 use Rattle.credits.specs.declared.faults.CreditFault.{CreditFault}
 use Rattle.credits.specs.declared.faults.CreditFault.the-variants.{Table, Quantity, Prices}
 use Rattle.credits.specs.Faults.{AnswersBy, first-fault, row-fault}
@@ -35,12 +38,13 @@ abbrev pub chain-fault : List ContractRow → List NodeRecord → List ℕ → O
 chain-fault rows nodes [] = None
 chain-fault rows nodes (i ∷ is) = first-fault (row-fault nodes (row-at rows i)) (chain-fault rows nodes is)
 
--- a quantity over its limit, by its place: demand 0, supply 1, day-ahead portion 2
-abbrev pub over-limit : ℕ → ℕ → Option CreditFault
-over-limit place quantity = cond (leb quantity 1000000) None (Some (Quantity place))
+-- a quantity of the schedule over its limit
+abbrev pub over-limit : Scheduled → ℕ → Option CreditFault
+over-limit quantity amount = cond (leb amount 1000000) None (Some (Quantity quantity))
 
+-- the first of them: demand, supply, day-ahead portion
 abbrev pub schedule-fault : Schedule → Option CreditFault
-schedule-fault s = first-fault (over-limit 0 (s .demand)) (first-fault (over-limit 1 (s .supply)) (over-limit 2 (s .«day_ahead»)))
+schedule-fault s = first-fault (over-limit Demand (s .demand)) (first-fault (over-limit Supply (s .supply)) (over-limit DayAhead (s .«day_ahead»)))
 
 -- a head that is no row
 abbrev pub head-fault : List ContractRow → ℕ → Option CreditFault
@@ -59,12 +63,6 @@ credit-fault rows head nodes s is = first-fault (head-fault rows head) (first-fa
 abbrev pub cents-of : ChainCredits → List ℤ
 cents-of c = take (c .count) (c .cents)
 
--- What a call answers for the chain from row `head`: the credits of its rows, or the first fault.
-pub record Credited (rows : List ContractRow) (head : ℕ) (nodes : List NodeRecord) (s : Schedule) (r : Result ChainCredits CreditFault) : Type 0 where
-  pub members : List ℕ
-  pub chain : Chain rows (head-of rows head) members
-  pub gives : AnswersBy cents-of (credit-fault rows head nodes s members) (credits rows nodes (balanced rows members s) members) r
-
 -- the sum of credits
 abbrev pub total : List ℤ → ℤ
 total cents = folded _+ℤ_ (pos 0) cents
@@ -74,10 +72,22 @@ abbrev pub last-row : ℕ → List ℕ → ℕ
 last-row i [] = i
 last-row i (j ∷ js) = last-row j js
 
+-- the receipt leg of the first row less the delivery leg of the last
+abbrev pub outer-legs : List ContractRow → List NodeRecord → ℤ → ℕ → List ℕ → ℤ
+outer-legs rows nodes b head is = node-leg nodes b (row-at rows head .receipt) -ℤ node-leg nodes b (row-at rows (last-row head is) .delivery)
+
+-- What a call answers for the chain from row `head`: the credits of its rows, or the first fault. Credits that are answered
+-- add up to the outer legs.
+pub record Credited (rows : List ContractRow) (head : ℕ) (nodes : List NodeRecord) (s : Schedule) (r : Result ChainCredits CreditFault) : Type 0 where
+  pub members : List ℕ
+  pub chain : Chain rows (head-of rows head) members
+  pub gives : AnswersBy cents-of (credit-fault rows head nodes s members) (credits rows nodes (balanced rows members s) members) r
+  pub adds-up : made r (λ c. total (cents-of c) ≡ outer-legs rows nodes (balanced rows members s) head members)
+
 -- Along a chain of the table each delivery leg is the next receipt leg: the credits add up to the first receipt leg less
 -- the last delivery leg.
 abbrev pub InnerLegsCancel : List ContractRow → Type 0
-InnerLegsCancel rows = (nodes : List NodeRecord) (b : ℤ) (i : ℕ) (is : List ℕ) → i < length rows → Chain rows (Some i) is → total (credits rows nodes b is) ≡ node-leg nodes b (row-at rows i .receipt) -ℤ node-leg nodes b (row-at rows (last-row i is) .delivery)
+InnerLegsCancel rows = (nodes : List NodeRecord) (b : ℤ) (i : ℕ) (is : List ℕ) → i < length rows → Chain rows (Some i) is → total (credits rows nodes b is) ≡ outer-legs rows nodes b i is
 
 -- So the credits of a whole chain without a fault are together at most 2,000,000 dollars either way.
 abbrev pub TotalWithin : List ContractRow → Type 0

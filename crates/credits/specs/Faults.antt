@@ -16,6 +16,8 @@ use Rattle.contracts.specs.declared.rows.ContractRow.{ContractRow}
 use Rattle.credits.specs.declared.nodes.NodeRecord.{NodeRecord}
 use Rattle.credits.specs.declared.faults.PriceFault.{PriceFault}
 use Rattle.credits.specs.declared.faults.PriceFault.the-variants.{NoRecord, OutOfBounds}
+use Rattle.credits.specs.declared.faults.Scheduled.{Scheduled}
+use Rattle.credits.specs.declared.faults.Scheduled.the-variants.{Demand, Supply, DayAhead}
 use Rattle.credits.specs.declared.faults.CreditFault.{CreditFault}
 use Rattle.credits.specs.declared.faults.CreditFault.the-variants.{Table, Quantity, Prices}
 use Rattle.contracts.specs.Refusals.{table-refusal}
@@ -26,10 +28,16 @@ abbrev pub price-refusal : PriceFault → Refusal
 price-refusal (NoRecord n) = record { number = 15; layer = layer.Prices; place = n }
 price-refusal (OutOfBounds n) = record { number = 16; layer = layer.Prices; place = n }
 
+-- the place of a quantity of the schedule
+abbrev pub scheduled-place : Scheduled → ℕ
+scheduled-place Demand = 0
+scheduled-place Supply = 1
+scheduled-place DayAhead = 2
+
 -- the refusal by a fault of a chain's credits: a fault of the table or of the prices keeps its own
 abbrev pub credit-refusal : CreditFault → Refusal
 credit-refusal (Table fault) = table-refusal fault
-credit-refusal (Quantity place) = record { number = 14; layer = Book; place = place }
+credit-refusal (Quantity quantity) = record { number = 14; layer = Book; place = scheduled-place quantity }
 credit-refusal (Prices fault) = price-refusal fault
 
 -- what is wrong with a node

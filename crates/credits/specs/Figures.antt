@@ -50,7 +50,10 @@ pub record Figures : Type 0 where
   pub owed-quantity : balanced two-rows (0 ∷ 1 ∷ []) (schedule 60000) ≡ negℤ (pos 25000)
   -- 6,000 less 21,000, and 21,000 less 30,000
   pub both-rows : credits two-rows three-nodes (pos 30000) (0 ∷ 1 ∷ []) ≡ negℤ (pos 15000) ∷ negℤ (pos 9000) ∷ []
-  -- at -25,000 the legs are -5,000, -17,500 and -25,000
+  -- the legs at -25,000, and the credits
+  pub owed-low-leg : leg (negℤ (pos 25000)) (pos 200000) ≡ negℤ (pos 5000)
+  pub owed-middle-leg : leg (negℤ (pos 25000)) (pos 700000) ≡ negℤ (pos 17500)
+  pub owed-high-leg : leg (negℤ (pos 25000)) (pos 1000000) ≡ negℤ (pos 25000)
   pub owed-rows : credits two-rows three-nodes (negℤ (pos 25000)) (0 ∷ 1 ∷ []) ≡ pos 12500 ∷ pos 7500 ∷ []
   -- the limits themselves are accepted, and nothing beyond one
   pub at-limits : within-bounds (node 1000000 1000000 (pos 100000000) (negℤ (pos 100000000))) ≡ true

@@ -12,6 +12,7 @@ use crate::faults::CreditFault;
 use crate::faults::CreditFaultFromPrices;
 use crate::faults::CreditFaultFromTable;
 use crate::faults::PriceFault;
+use crate::faults::Scheduled;
 use crate::legs::row_credit;
 use crate::nodes::NodeRecord;
 use crate::quantities::BalancedQuantity;
@@ -24,12 +25,12 @@ use contracts::MAX_ROWS;
 /// The largest demand, supply and day-ahead portion.
 pub const MAX_SCHEDULED_MILLI_MWH: u32 = 1_000_000;
 
-// Refuses a quantity over its limit, by the place of its kind.
-fn within_limit(quantity: u32, place: usize) -> Result<(), CreditFault>
-    ensures { λ r. ⌜ Answers (over-limit place quantity) tt r ⌝ }
+// Refuses a quantity of the schedule over its limit.
+fn within_limit(quantity: Scheduled, amount: u32) -> Result<(), CreditFault>
+    ensures { λ r. ⌜ Answers (over-limit quantity amount) tt r ⌝ }
 {
-    if quantity > MAX_SCHEDULED_MILLI_MWH {
-        return Err(CreditFault::Quantity(place));
+    if amount > MAX_SCHEDULED_MILLI_MWH {
+        return Err(CreditFault::Quantity(quantity));
     }
     Ok(())
 }
@@ -38,25 +39,25 @@ fn within_limit(quantity: u32, place: usize) -> Result<(), CreditFault>
 fn check_schedule(schedule: Schedule) -> Result<(), CreditFault>
     ensures { λ r. ⌜ Answers (schedule-fault schedule) tt r ⌝ }
 {
-    within_limit(schedule.demand, 0)?;
-    within_limit(schedule.supply, 1)?;
-    within_limit(schedule.day_ahead, 2)
+    within_limit(Scheduled::Demand, schedule.demand)?;
+    within_limit(Scheduled::Supply, schedule.supply)?;
+    within_limit(Scheduled::DayAhead, schedule.day_ahead)
 }
 
-// What is carried less what the day-ahead market balanced, which may be the larger.
-fn less_day_ahead(carried: u32, day_ahead: u32) -> i64
-    ensures { λ r. ⌜ r ≡ pos carried -ℤ pos «day_ahead» ⌝ }
+// What a chain carries less what the day-ahead market balanced, which may be the larger.
+fn less_day_ahead(flow: u32, day_ahead: u32) -> i64
+    ensures { λ r. ⌜ r ≡ pos flow -ℤ pos «day_ahead» ⌝ }
 {
-    i64::from(carried) - i64::from(day_ahead)
+    i64::from(flow) - i64::from(day_ahead)
 }
 
 // The balanced quantity of a chain that carries so much.
-fn quantity(carried: u32, day_ahead: u32) -> BalancedQuantity
-    requires { ⌜ carried ≤ 1000000 ⌝ ∗ ⌜ «day_ahead» ≤ 1000000 ⌝ }
-    ensures { λ r. ⌜ r .«milli_mwh» ≡ pos carried -ℤ pos «day_ahead» ⌝ }
+fn quantity(flow: u32, day_ahead: u32) -> BalancedQuantity
+    requires { ⌜ flow ≤ 1000000 ⌝ ∗ ⌜ «day_ahead» ≤ 1000000 ⌝ }
+    ensures { λ r. ⌜ r .«milli_mwh» ≡ pos flow -ℤ pos «day_ahead» ⌝ }
 {
     BalancedQuantity {
-        milli_mwh: less_day_ahead(carried, day_ahead),
+        milli_mwh: less_day_ahead(flow, day_ahead),
     }
 }
 
@@ -71,8 +72,8 @@ pub fn balanced_quantity(
 {
     table.check_head(head)?;
     check_schedule(schedule)?;
-    let carried = table.carried(head, schedule.demand.min(schedule.supply));
-    Ok(quantity(carried, schedule.day_ahead))
+    let flow = table.carried(head, schedule.demand.min(schedule.supply));
+    Ok(quantity(flow, schedule.day_ahead))
 }
 
 // The credits of the rows that a walk has before it, or the first fault of a node.

@@ -32,12 +32,20 @@ impl PriceFault {
     }
 }
 
-/// Why a chain gets no credits: its head is no row of the table, a quantity is over its limit (demand 0, supply 1,
-/// day-ahead portion 2), or a node on the chain has no price.
+/// The quantities of a schedule.
+#[derive(Clone, Copy, PartialEq, Eq, Debug)]
+pub enum Scheduled {
+    Demand,
+    Supply,
+    DayAhead,
+}
+
+/// Why a chain gets no credits: its head is no row of the table, a quantity of the schedule is over its limit, or a node on
+/// the chain has no price.
 #[derive(Clone, Copy, PartialEq, Eq, Debug)]
 pub enum CreditFault {
     Table(TableFault),
-    Quantity(usize),
+    Quantity(Scheduled),
     Prices(PriceFault),
 }
 
@@ -48,10 +56,14 @@ impl CreditFault {
     {
         match self {
             CreditFault::Table(fault) => fault.refusal(),
-            CreditFault::Quantity(place) => Refusal {
+            CreditFault::Quantity(quantity) => Refusal {
                 number: 14,
                 layer: Layer::Book,
-                place,
+                place: match quantity {
+                    Scheduled::Demand => 0,
+                    Scheduled::Supply => 1,
+                    Scheduled::DayAhead => 2,
+                },
             },
             CreditFault::Prices(fault) => fault.refusal(),
         }

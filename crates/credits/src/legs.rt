@@ -8,7 +8,7 @@ ghost use Rattle.credits.specs.Faults.{node-fault, row-fault, Answers};
 ghost use Rattle.credits.specs.Legs.{leg, node-leg, row-credit};
 use crate::faults::PriceFault;
 use crate::nodes::NodeRecord;
-use crate::prices::node_price;
+use crate::prices::price_of;
 use crate::quantities::BalancedQuantity;
 use crate::quotients::nearest_whole;
 use contracts::ContractRow;
@@ -45,11 +45,11 @@ fn node_leg(nodes: &[NodeRecord], node: usize, b: BalancedQuantity) -> Result<i6
     ensures answer { λ r. ⌜ Answers (node-fault (now (nodes .entry)) node) (node-leg (now (nodes .entry)) (b .«milli_mwh») node) r ⌝ }
     ensures small { λ r. ⌜ made r (λ cents. natAbs cents ≤ 100000000) ⌝ }
 {
-    Ok(leg(b, node_price(nodes, node)?))
+    Ok(leg(b, price_of(nodes, node)?))
 }
 
-/// The credit of a row at a balanced quantity, in cents: its receipt leg less its delivery leg. If a node of it is at
-/// fault, that fault, the receipt judged first.
+/// The credit of a row at a balanced quantity, in cents: its receipt leg less its delivery leg. A negative one is paid to
+/// the billing party, a positive one charged. If a node of it is at fault, that fault, the receipt judged first.
 pub fn row_credit(
     nodes: &[NodeRecord],
     row: &ContractRow,

@@ -6,7 +6,7 @@ ghost use lib.IntN.{natAbs};
 ghost use Rattle.std.specs.Vec.{made};
 ghost use Rattle.credits.specs.Prices.{node-at, total-deviation, weighed, weighted-sum, weighted-mean, plain-mean, weighted-price, within-bounds};
 ghost use Rattle.credits.specs.Faults.{node-fault, Answers};
-ghost use Rattle.credits.specs.Limits.{Limits};
+ghost use Rattle.credits.specs.Limits.{Limits, NearestAmounts};
 ghost use Rattle.credits.specs.Figures.{Figures};
 use crate::faults::PriceFault;
 use crate::nodes::NodeRecord;
@@ -89,12 +89,21 @@ fn sound_record(nodes: &[NodeRecord], node: usize) -> Result<NodeRecord, PriceFa
     Ok(nodes[node])
 }
 
+// The weighted price of a node; or its fault.
+pub(super) fn price_of(nodes: &[NodeRecord], node: usize) -> Result<i64, PriceFault>
+    ensures answer { λ r. ⌜ Answers (node-fault (now (nodes .entry)) node) (weighted-price (node-at (now (nodes .entry)) node)) r ⌝ }
+    ensures small { λ r. ⌜ made r (λ price. natAbs price ≤ 100000000) ⌝ }
+{
+    Ok(weighted_price(sound_record(nodes, node)?))
+}
+
 /// The weighted price of a node, in hundred-thousandths of a dollar; or its fault.
 pub fn node_price(nodes: &[NodeRecord], node: usize) -> Result<i64, PriceFault>
     ensures answer { λ r. ⌜ Answers (node-fault (now (nodes .entry)) node) (weighted-price (node-at (now (nodes .entry)) node)) r ⌝ }
     ensures small { λ r. ⌜ made r (λ price. natAbs price ≤ 100000000) ⌝ }
+    ensures nearest { λ _. ⌜ NearestAmounts ⌝ }
     ensures limits { λ _. ⌜ Limits ⌝ }
     ensures figures { λ _. ⌜ Figures ⌝ }
 {
-    Ok(weighted_price(sound_record(nodes, node)?))
+    price_of(nodes, node)
 }

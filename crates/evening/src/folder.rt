@@ -14,7 +14,11 @@ fn file_bytes(rt: &LibcRuntime, folder: &str, name: &str) -> Result<Vec<u8>, Any
     let path = format!(rt.alloc(), "{folder}/{name}.csv")?;
     match fs::read(rt, path.as_str()) {
         Ok(bytes) => Ok(bytes),
-        Err(error) => Err(format!(rt.alloc(), "{path} cannot be read: {error}")?.into()),
+        // The path is last, since a long message is cut.
+        Err(error) => Err(format!(
+            rt.alloc(),
+            "{name}.csv cannot be read, {error}: {path}"
+        )?.into()),
     }
 }
 

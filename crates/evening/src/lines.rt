@@ -130,7 +130,8 @@ mod tests {
     use crate::report;
     use std::test::*;
 
-    // The words of a line, and the message that they are refused with, or what is printed where they are a task.
+    // The words of a line, and the message that they are refused with, or what is printed where they are a task. (The
+    // program takes one word for a folder, and does not come here with it.)
     const LINES: [(&str, &str); 12] = [
         (
             "",

@@ -15,7 +15,7 @@ fn split_at_byte(bytes: &[u8], end: u8) -> Option<(&[u8], &[u8])>
 {
     for (i, b) in bytes.iter().enumerate() {
         if *b == end {
-            return Some((&bytes[0..i], &bytes[i + 1..]));
+            return Some((&bytes[..i], &bytes[i + 1..]));
         }
     }
     None
