@@ -6,7 +6,7 @@ use Rattle.contract_report.proofs.chains.chain_text.Goals as goal
 
 pub loop-place-init : goal.loop-place-init
 loop-place-init c =
-    let same = c.into-iter-place-iterator.ensures.into-iter-gives in (
+    let same = c.into_iter-place-iterator.ensures.into_iter-gives in (
       ap (λ w. w.rows.now) same,
       rw c.new-text.ensures.bytes (folding_none (with_line c.args.walk.rows.now c.args.head) c.args.walk.rows.now _ [] _ (ap (λ w. w.place) same)),
     )
@@ -15,7 +15,7 @@ pub loop-place-preserved : goal.loop-place-preserved
 loop-place-preserved c =
     let step = c.in-Some.ensures.steps in (
       search rules,
-      with_line_more _ c.loop-place.place-iterator.rows.now _ _ c.in-Some.place c.loop-place.place-iterator.place c.next.new.self.place c.in-Some.row _ _ c.loop-place.invariant.0 step.1.0 step.1.1 step.1.2 c.in-ok-add-line.ensures c.loop-place.invariant.1,
+      with_line_more _ c.loop-place.place-iterator.rows.now _ _ c.in-Some.place c.loop-place.place-iterator.place c.next.new.self.place c.in-Some.row _ _ c.loop-place.invariant.0 step.1.0 step.1.1 step.1.2 c.in_ok-add_line.ensures c.loop-place.invariant.1,
     )
 
 pub returns : goal.returns

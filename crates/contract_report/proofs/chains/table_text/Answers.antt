@@ -6,4 +6,4 @@ pub loop-place-init : goal.loop-place-init
 loop-place-init c = printed_none _ _ (search rules)
 
 pub loop-place-preserved : goal.loop-place-preserved
-loop-place-preserved c = printed_more _ _ _ _ _ c.in-ok-part.ensures (search rules) c.loop-place.invariant
+loop-place-preserved c = printed_more _ _ _ _ _ c.in_ok-part.ensures (search rules) c.loop-place.invariant

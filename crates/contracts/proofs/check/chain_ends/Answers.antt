@@ -22,5 +22,5 @@ loop-place-preserved c =
 pub returns : goal.returns
 returns c =
     let walking = c.loop-place.invariant.1 in
-    let here = rw c.in-default.is at walking in
+    let here = rw c.in_default.is at walking in
     record { ends = (λ _. here.back [] done, λ _. refl); walked = λ _. walking_ends _ _ _ _ _ done here }

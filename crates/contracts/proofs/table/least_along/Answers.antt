@@ -6,7 +6,7 @@ use Rattle.contracts.proofs.table.least_along.Goals as goal
 
 pub loop-place-init : goal.loop-place-init
 loop-place-init c =
-    let same = c.into-iter-place-iterator.ensures.into-iter-gives in
+    let same = c.into_iter-place-iterator.ensures.into_iter-gives in
     (search rules, ap (λ w. w.rows.now) same, folding_none (carried_by c.args.walk.rows.now) _ _ _ _ (ap (λ w. w.place) same))
 
 pub loop-place-preserved : goal.loop-place-preserved

@@ -6,8 +6,8 @@ use Rattle.credits.proofs.prices.node_price.Goals as goal
 pub returns : goal.returns
 returns c =
     record {
-      answer = c.price-of.ensures.answer;
-      small = c.price-of.ensures.small;
+      answer = c.price_of.ensures.answer;
+      small = c.price_of.ensures.small;
       nearest = nearest_amounts;
       limits = limits;
       figures = figures;

@@ -7,8 +7,8 @@ use Rattle.credits.proofs.prices.weighed.Goals as goal
 product_fits : (p : ℤ) (d : ℕ) → nat_abs p ≤ 100000000 → d ≤ 1000000 → SFits w64 (p *ℤ pos d)
 product_fits p d h k = omega (arith, ints, product_le p d 100000000 h)
 
-pub overflow-mul-result : goal.overflow-mul-result
-overflow-mul-result c = let p = product_fits c.args.price c.args.deviation c.requires.0 c.requires.1 in grind (arith, to_z-of_z)
+pub overflow_mul-result : goal.overflow_mul-result
+overflow_mul-result c = let p = product_fits c.args.price c.args.deviation c.requires.0 c.requires.1 in grind (arith, to_z-of_z)
 
 pub returns : goal.returns
 unfolding weighed

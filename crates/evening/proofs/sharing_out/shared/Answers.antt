@@ -9,16 +9,16 @@ returns g c =
     let task = c.args.task.now in
     let f = task.amount in
     let ws = vec_items task.weights in
-    let table = c.in-ok-shares.shares in
-    let made = c.in-ok-shares.ensures.len in
+    let table = c.in_ok-shares.shares in
+    let made = c.in_ok-shares.ensures.len in
     let weights = task.weights.ok.0 in
-    let cells : length c.as-mut-slice.result.now ≡ length ws = omega arith in
+    let cells : length c.as_mut_slice.result.now ≡ length ws = omega arith in
     let fits : SFits w64 f = search rules in
     let within : Within f ws = record { size = task.small; some = omega arith; most = omega arith } in
-    let ready : Ready f ws (length c.as-mut-slice.result.now) = record { within = within; cells = cells } in
+    let ready : Ready f ws (length c.as_mut_slice.result.now) = record { within = within; cells = cells } in
     let here = simp to_z-of_z at c.share-rest.ensures in
-    let shared : Shared (g.R.SharingRule.meaning c.args.rule.now) f ws c.as-mut-slice.result.now c.share-rest.new.shares c.share-rest.result =
-    subst (λ xs. Shared (g.R.SharingRule.meaning c.args.rule.now) f xs c.as-mut-slice.result.now c.share-rest.new.shares c.share-rest.result) c.as-slice.ensures.value here in
+    let shared : Shared (g.R.SharingRule.meaning c.args.rule.now) f ws c.as_mut_slice.result.now c.share-rest.new.shares c.share-rest.result =
+    subst (λ xs. Shared (g.R.SharingRule.meaning c.args.rule.now) f xs c.as_mut_slice.result.now c.share-rest.new.shares c.share-rest.result) c.as_slice.ensures.value here in
     let kept = c.share-rest.auto.shares in
     let all : take table.len (c.share-rest.new.shares ++ drop (length c.share-rest.new.shares) table.items) ≡ c.share-rest.new.shares =
     take-append-le table.len c.share-rest.new.shares _ (omega arith) ∙ take_all table.len c.share-rest.new.shares (omega arith) in

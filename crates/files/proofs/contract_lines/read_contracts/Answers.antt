@@ -4,4 +4,4 @@ use Rattle.files.proofs.OneReading.{one_answer}
 use Rattle.files.proofs.contract_lines.read_contracts.Goals as goal
 
 pub returns : goal.returns
-returns c = record { reads = c.read-lines.ensures; only = one_answer contract_line WritableRow contract_some one_contract }
+returns c = record { reads = c.read_lines.ensures; only = one_answer contract_line WritableRow contract_some one_contract }

@@ -13,21 +13,21 @@ returns-then-field-eq45 c =
     let field = c.args.field.now in
     let whole : 45 ∷ between 1 (length field) field ≡ field =
     ap (λ b. b ∷ between 1 (length field) field) (sym c.if-field-eq45.true) ∙ sym (first_rest field 0 c.if-field-gt0.true) in
-    subst (λ text. MatchOption c.price-below-zero.result (NoText signed_decimal SmallPrice text) (IsText signed_decimal SmallPrice text)) whole c.price-below-zero.ensures
+    subst (λ text. MatchOption c.price_below_zero.result (NoText signed_decimal SmallPrice text) (IsText signed_decimal SmallPrice text)) whole c.price_below_zero.ensures
 
-pub returns-in-err-n : goal.returns-in-err-n
-returns-in-err-n c =
+pub returns-in_err-n : goal.returns-in_err-n
+returns-in_err-n c =
     let plus : (ds : List ℕ) → c.args.field.now ≡ 45 ∷ ds → ⊥ =
     λ ds e. elim c.else-field-gt0.branch [
       | else-field-gt0-via-then-field-gt0+else-field-eq45 w ↦ w.if-field-eq45.false (ap (λ xs. get_or xs 0 0) e)
       | else-field-gt0-via-else-field-gt0 w ↦ omega (arith, ap length e)
     ] in
-    rw c.from-residual.ensures (no_price c.args.field.now plus c.in-err-n.ensures)
+    rw c.from_residual.ensures (no_price c.args.field.now plus c.in_err-n.ensures)
 
 pub returns : goal.returns
 returns c =
-    let n = c.in-ok-n.n in
-    let t = c.in-ok-n.ensures in
+    let n = c.in_ok-n.n in
+    let t = c.in_ok-n.ensures in
     let small = t.fine in
     let e : pos n ≡ to_z w64 (of_z w64 c.from.result) = omega (arith, ints) in
     subst (IsText signed_decimal SmallPrice c.args.field.now) e (price_text c.args.field.now n t)

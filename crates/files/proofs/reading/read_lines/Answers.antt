@@ -24,12 +24,12 @@ loop-left-preserved g c =
     let row = c.in-Some.row in
     let rest = c.in-Some.rest.now in
     let front = c.in-Some.ensures in
-    let items : vec_items c.push.new.self ≡ before ++ row ∷ [] = pushed {now = vec_items c.push.new.self} {r = c.push.result} (row ∷ []) refl c.in-ok-push.was c.push.ensures.items in
+    let items : vec_items c.push.new.self ≡ before ++ row ∷ [] = pushed {now = vec_items c.push.new.self} {r = c.push.result} (row ∷ []) refl c.in_ok-push.was c.push.ensures.items in
     let less = falls g c in (
       subst (All Writable) (sym items) (All-push Writable before row c.loop-left.invariant.0 front.fine),
       subst (λ rows. c.args.bytes.now ≡ flat_map line rows ++ rest) (sym items)
           (one_more line Writable c.loop-left.left.now row rest front c.args.bytes.now before c.loop-left.invariant.1),
-      omega (arith, c.in-ok-push.ensures.len),
+      omega (arith, c.in_ok-push.ensures.len),
     )
 
 pub returns : goal.returns

@@ -8,10 +8,10 @@ use Rattle.sharing.specs.ByPlace.{written}
 use Rattle.sharing.specs.Upto.{upto_part}
 use Rattle.sharing.specs.LargestLaw.{largest_all, largest_exact, largest_law}
 use Rattle.sharing.proofs.largest_remainder.share_by_remainder.Goals as goal
-use Rattle.sharing.proofs.largest_remainder.share_by_remainder.Goals.{After-with-sign}
+use Rattle.sharing.proofs.largest_remainder.share_by_remainder.Goals.{After-with_sign}
 
 -- the cents of place i, by the size of the amount
-here : (c : After-with-sign) → (c.cents.result ≡ largest_cents (nat_abs (to_z w64 (of_z w64 c.args.amount))) c.args.weights.now c.loop-i.i) × (c.cents.result ≤ nat_abs (to_z w64 (of_z w64 c.args.amount)))
+here : (c : After-with_sign) → (c.cents.result ≡ largest_cents (nat_abs (to_z w64 (of_z w64 c.args.amount))) c.args.weights.now c.loop-i.i) × (c.cents.result ≤ nat_abs (to_z w64 (of_z w64 c.args.amount)))
 here c =
     let f = to_z w64 (of_z w64 c.args.amount) in
     let ws = c.args.weights.now in
@@ -28,7 +28,7 @@ loop-i-preserved c =
     let f = to_z w64 (of_z w64 c.args.amount) in
     let ws = c.args.weights.now in
     let i = c.loop-i.i in
-    let so = here (goal.at.loop-i-preserved c).After-with-sign in
+    let so = here (goal.at.loop-i-preserved c).After-with_sign in
     let share : to_z w64 (of_z w64 c.unwrap.result) ≡ signed f c.cents.result = grind (arith, to_z-of_z) in
     rw (share ∙ ap (signed f) so.0) (fill_by_more (largest_at f ws) c.loop-i.shares i (pos 0) (omega arith) c.loop-i.invariant)
 

@@ -9,8 +9,8 @@ use Rattle.sharing.proofs.rate.rate_share.Goals as goal
 product_fits : (f : ℤ) (w : ℕ) → nat_abs f ≤ 1000000000 → w < 2 ^ 32 → SFits w64 (f *ℤ pos w)
 product_fits f w a b = omega (arith, ints, nat_abs_mul f w, mul-le (nat_abs f) w 1000000000 4294967296 a (omega arith))
 
-pub overflow-mul-amount : goal.overflow-mul-amount
-overflow-mul-amount c = let p = product_fits c.args.amount c.args.weight c.requires.0 c.ranges.weight.fits in grind (arith, to_z-of_z)
+pub overflow_mul-amount : goal.overflow_mul-amount
+overflow_mul-amount c = let p = product_fits c.args.amount c.args.weight c.requires.0 c.ranges.weight.fits in grind (arith, to_z-of_z)
 
 pub returns : goal.returns
 returns c =

@@ -8,11 +8,11 @@ use Rattle.sharing.specs.ByPlace.{added_to_more, written}
 use Rattle.sharing.specs.RateLaw.{rate_law}
 use Rattle.sharing.proofs.rate.share_by_rate.Goals as goal
 
-pub overflow-sub-rest : goal.overflow-sub-rest
-overflow-sub-rest c =
+pub overflow_sub-rest : goal.overflow_sub-rest
+overflow_sub-rest c =
     let ws = c.args.weights.now in
     let i = c.loop-i.i in
-    omega (arith, ints, sum_by-take-le (λ x. x) ws i, (c.type-inv.weights i).fits)
+    omega (arith, ints, sum_by-take-le (λ x. x) ws i, (c.type_inv.weights i).fits)
 
 pub loop-i-preserved : goal.loop-i-preserved
 loop-i-preserved c =
@@ -20,11 +20,11 @@ loop-i-preserved c =
     let ws = c.args.weights.now in
     let i = c.loop-i.i in
     let s = rate_at f ws in
-    let here : to_z w64 (of_z w64 c.rate-share-share.result) ≡ s i = grind (arith, to_z-of_z) in
+    let here : to_z w64 (of_z w64 c.rate_share-share.result) ≡ s i = grind (arith, to_z-of_z) in
     let more = added_to_more s i in
     let weight = sum_by_more (λ x. x) ws i 0 c.loop-i-test.true in (
       rw here (fill_by_more s c.loop-i.shares i (pos 0) (omega arith) c.loop-i.invariant.0),
-      omega (arith, ints, sum_by-take-le (λ x. x) ws i, (c.type-inv.weights i).fits),
+      omega (arith, ints, sum_by-take-le (λ x. x) ws i, (c.type_inv.weights i).fits),
       omega (arith, ints),
     )
 

@@ -10,8 +10,8 @@ use Rattle.sharing.specs.RunningLaw.{reached_up, running_all, running_exact, run
 use Rattle.sharing.proofs.running.share_by_running.Goals as goal
 use Rattle.sharing.proofs.running.share_by_running.Goals.{After-portion-reached}
 
-pub overflow-add-sum : goal.overflow-add-sum
-overflow-add-sum c = omega (arith, sum_by-take-le (λ x. x) c.args.weights.now c.loop-i.i, (c.type-inv.weights c.loop-i.i).fits)
+pub overflow_add-sum : goal.overflow_add-sum
+overflow_add-sum c = omega (arith, sum_by-take-le (λ x. x) c.args.weights.now c.loop-i.i, (c.type_inv.weights c.loop-i.i).fits)
 
 pub portion-reached-requires : goal.portion-reached-requires
 portion-reached-requires c =

@@ -2,8 +2,8 @@ use Rattle.std.proofs.Common.{◌<◌, length, rules}
 use Rattle.contracts.proofs.Sounds.{sound_of, sound_inside, sound_falls}
 use Rattle.contracts.proofs.chain.ChainRows.advance.Goals as goal
 
-pub invariant-of-self : goal.invariant-of-self
-invariant-of-self c =
+pub invariant_of-self : goal.invariant_of-self
+invariant_of-self c =
     let here : c.args.place < length c.args.self.now.rows.now = search rules in
     (c.args.self.now.sound, (sound_inside _ (sound_of _ c.args.self.now.sound) _ here, tt))
 

@@ -1,4 +1,4 @@
 use Rattle.contracts.proofs.table.CheckedTable.new.Goals as goal
 
-pub invariant-of-result : goal.invariant-of-result
-invariant-of-result c = (∣ c.passing.ensures.sound ∣₁, tt)
+pub invariant_of-result : goal.invariant_of-result
+invariant_of-result c = (∣ c.passing.ensures.sound ∣₁, tt)

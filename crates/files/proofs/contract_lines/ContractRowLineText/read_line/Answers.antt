@@ -4,36 +4,36 @@ use Rattle.files.specs.Lines.{contract_line, WritableRow}
 use Rattle.files.specs.FieldByField.{a_contract, no_contract}
 use Rattle.files.proofs.contract_lines.ContractRowLineText.read_line.Goals as goal
 
-pub returns-in-err-party : goal.returns-in-err-party
-returns-in-err-party c =
-    rw c.from-residual.ensures (no_contract c.args.bytes.now (inl c.in-err-party.ensures))
+pub returns-in_err-party : goal.returns-in_err-party
+returns-in_err-party c =
+    rw c.from_residual.ensures (no_contract c.args.bytes.now (inl c.in_err-party.ensures))
 
-pub returns-in-err-capacity : goal.returns-in-err-capacity
-returns-in-err-capacity c =
-    rw c.from-residual-in-err-capacity.ensures (no_contract c.args.bytes.now (inr (_, _, c.in-ok-party.ensures, inl c.in-err-capacity.ensures)))
+pub returns-in_err-capacity : goal.returns-in_err-capacity
+returns-in_err-capacity c =
+    rw c.from_residual-in_err-capacity.ensures (no_contract c.args.bytes.now (inr (_, _, c.in_ok-party.ensures, inl c.in_err-capacity.ensures)))
 
-pub returns-in-err-receipt : goal.returns-in-err-receipt
-returns-in-err-receipt c =
-    rw c.from-residual-in-err-receipt.ensures (no_contract c.args.bytes.now (inr (_, _, c.in-ok-party.ensures, inr (_, _, c.in-ok-capacity.ensures, inl c.in-err-receipt.ensures))))
+pub returns-in_err-receipt : goal.returns-in_err-receipt
+returns-in_err-receipt c =
+    rw c.from_residual-in_err-receipt.ensures (no_contract c.args.bytes.now (inr (_, _, c.in_ok-party.ensures, inr (_, _, c.in_ok-capacity.ensures, inl c.in_err-receipt.ensures))))
 
-pub returns-in-err-delivery : goal.returns-in-err-delivery
-returns-in-err-delivery c =
-    rw c.from-residual-in-err-delivery.ensures (no_contract c.args.bytes.now (inr (_, _, c.in-ok-party.ensures, inr (_, _, c.in-ok-capacity.ensures, inr (_, _, c.in-ok-receipt.ensures, inl c.in-err-delivery.ensures)))))
+pub returns-in_err-delivery : goal.returns-in_err-delivery
+returns-in_err-delivery c =
+    rw c.from_residual-in_err-delivery.ensures (no_contract c.args.bytes.now (inr (_, _, c.in_ok-party.ensures, inr (_, _, c.in_ok-capacity.ensures, inr (_, _, c.in_ok-receipt.ensures, inl c.in_err-delivery.ensures)))))
 
-pub returns-in-err-next : goal.returns-in-err-next
-returns-in-err-next c =
-    rw c.from-residual-in-err-next.ensures (no_contract c.args.bytes.now (inr (_, _, c.in-ok-party.ensures, inr (_, _, c.in-ok-capacity.ensures, inr (_, _, c.in-ok-receipt.ensures, inr (_, _, c.in-ok-delivery.ensures, inl c.in-err-next.ensures))))))
+pub returns-in_err-next : goal.returns-in_err-next
+returns-in_err-next c =
+    rw c.from_residual-in_err-next.ensures (no_contract c.args.bytes.now (inr (_, _, c.in_ok-party.ensures, inr (_, _, c.in_ok-capacity.ensures, inr (_, _, c.in_ok-receipt.ensures, inr (_, _, c.in_ok-delivery.ensures, inl c.in_err-next.ensures))))))
 
 pub returns : goal.returns
 returns c =
-    subst (λ row. Front contract_line WritableRow c.args.bytes.now row c.in-ok-next.rest.now) (sym c.row-of.ensures) record {
+    subst (λ row. Front contract_line WritableRow c.args.bytes.now row c.in_ok-next.rest.now) (sym c.row_of.ensures) record {
       fine = record {
-        party = c.in-ok-party.ensures.fine;
-        capacity = c.in-ok-capacity.ensures.fine;
-        receipt = c.in-ok-receipt.ensures.fine;
-        delivery = c.in-ok-delivery.ensures.fine;
-        next = c.in-ok-next.ensures.fine;
+        party = c.in_ok-party.ensures.fine;
+        capacity = c.in_ok-capacity.ensures.fine;
+        receipt = c.in_ok-receipt.ensures.fine;
+        delivery = c.in_ok-delivery.ensures.fine;
+        next = c.in_ok-next.ensures.fine;
       };
-      written = a_contract c.args.bytes.now c.in-ok-next.rest.now _
-          (_, c.in-ok-party.ensures, (_, c.in-ok-capacity.ensures, (_, c.in-ok-receipt.ensures, (_, c.in-ok-delivery.ensures, (_, c.in-ok-next.ensures, refl)))));
+      written = a_contract c.args.bytes.now c.in_ok-next.rest.now _
+          (_, c.in_ok-party.ensures, (_, c.in_ok-capacity.ensures, (_, c.in_ok-receipt.ensures, (_, c.in_ok-delivery.ensures, (_, c.in_ok-next.ensures, refl)))));
     }

@@ -14,8 +14,8 @@ enough c =
     let here : c.portion-left.result ≡ cents i = cc in
     (here, omega (arith, upto_more cents i, upto_up cents (i + 1) (length d.weights.now) (omega arith), wholes_le d.size d.weights.now (omega (arith, d.some, d.all))))
 
-pub overflow-sub-left : goal.overflow-sub-left
-overflow-sub-left c = (enough c).1
+pub overflow_sub-left : goal.overflow_sub-left
+overflow_sub-left c = (enough c).1
 
 pub loop-w-preserved : goal.loop-w-preserved
 loop-w-preserved c =
