@@ -6,7 +6,7 @@ use Rattle.contract_report.proofs.chains.chain_text.Goals as goal
 
 pub loop-place-init : goal.loop-place-init
 loop-place-init c =
-    let same = c.into_iter-place-iterator.ensures.into_iter-gives in (
+    let same = c.into_iter-place-iterator.ensures.into_iter_gives in (
       ap (λ w. w.rows.now) same,
       rw c.new-text.ensures.bytes (folding_none (with_line c.args.walk.rows.now c.args.head) c.args.walk.rows.now _ [] _ (ap (λ w. w.place) same)),
     )

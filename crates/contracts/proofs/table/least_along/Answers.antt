@@ -6,14 +6,14 @@ use Rattle.contracts.proofs.table.least_along.Goals as goal
 
 pub loop-place-init : goal.loop-place-init
 loop-place-init c =
-    let same = c.into_iter-place-iterator.ensures.into_iter-gives in
+    let same = c.into_iter-place-iterator.ensures.into_iter_gives in
     (search rules, ap (λ w. w.rows.now) same, folding_none (carried_by c.args.walk.rows.now) _ _ _ _ (ap (λ w. w.place) same))
 
 pub loop-place-preserved : goal.loop-place-preserved
 loop-place-preserved c =
     let rows = c.loop-place.invariant.1 in
     let step = c.in-Some.ensures.steps in
-    let here = step.1.1 ∙ ap (λ rs. row_at rs c.in-Some.-place) rows in
+    let here = step.1.1 ∙ ap (λ rs. row_at rs c.in-Some._place) rows in
     let onward = step.1.2 ∙ ap (λ r. r.next) here in (
       search rules,
       step.0 ∙ rows,

@@ -5,4 +5,4 @@ use Rattle.contracts.proofs.table.least_along.Given as goal
 
 abbrev pub invariant-loop-place : goal.invariant-loop-place
 invariant-loop-place l =
-    (l.least ≤ l.quantity) × (l.-place-iterator.rows.now ≡ l.walk.rows.now) × Folding (carried_by l.walk.rows.now) l.walk.rows.now l.walk.place l.quantity l.-place-iterator.place l.least
+    (l.least ≤ l.quantity) × (l._place-iterator.rows.now ≡ l.walk.rows.now) × Folding (carried_by l.walk.rows.now) l.walk.rows.now l.walk.place l.quantity l._place-iterator.place l.least

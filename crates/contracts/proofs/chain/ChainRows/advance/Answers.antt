@@ -5,7 +5,7 @@ use Rattle.contracts.proofs.chain.ChainRows.advance.Goals as goal
 pub invariant_of-self : goal.invariant_of-self
 invariant_of-self c =
     let here : c.args.place < length c.args.self.now.rows.now = search rules in
-    (c.args.self.now.sound, (sound_inside _ (sound_of _ c.args.self.now.sound) _ here, tt))
+    record { sound = c.args.self.now.sound; inside = sound_inside _ (sound_of _ c.args.self.now.sound) _ here }
 
 pub returns : goal.returns
 returns c =

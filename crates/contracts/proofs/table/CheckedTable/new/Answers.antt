@@ -1,4 +1,4 @@
 use Rattle.contracts.proofs.table.CheckedTable.new.Goals as goal
 
 pub invariant_of-result : goal.invariant_of-result
-invariant_of-result c = (∣ c.passing.ensures.sound ∣₁, tt)
+invariant_of-result c = record { sound = ∣ c.passing.ensures.sound ∣₁ }
