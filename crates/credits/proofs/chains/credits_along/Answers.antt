@@ -12,7 +12,7 @@ use Rattle.credits.proofs.chains.credits_along.Goals as goal
 pub returns-in_err-cents : goal.returns-in_err-cents
 returns-in_err-cents c is chain =
     let step = c.in-Some.ensures.steps in
-    let here = step.1.1 ∙ ap (λ rs. row_at rs c.in-Some.-place) c.loop-place.invariant.0 in
+    let here = step.1.1 ∙ ap (λ rs. row_at rs c.in-Some._place) c.loop-place.invariant.0 in
     let wrong = ap (row_fault c.args.nodes.now) (sym here) ∙ c.in_err-cents.ensures.answer in
     let p = err_from_is_err_and c.from_residual.result c.from_residual.ensures.1 in
     rw (p.1, p.2) (crediting_fault _ _ _ _ _ _ _ _ _ step.1.0 wrong c.loop-place.invariant.3 is chain)
@@ -26,7 +26,7 @@ pub loop-place-preserved : goal.loop-place-preserved
 loop-place-preserved c =
     let step = c.in-Some.ensures.steps in
     let rows = c.loop-place.invariant.0 in
-    let here = step.1.1 ∙ ap (λ rs. row_at rs c.in-Some.-place) rows in
+    let here = step.1.1 ∙ ap (λ rs. row_at rs c.in-Some._place) rows in
     let room = crediting_room _ _ _ _ _ _ _ _ (sound_of _ c.args.walk.sound) c.args.walk.inside step.1.0 c.loop-place.invariant.3 in
     let cell : c.loop-place.count < length c.loop-place.cents = omega (arith, c.loop-place.invariant.1) in
     let fits : SFits w64 c.in_ok-cents.field-0 = search rules in
