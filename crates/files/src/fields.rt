@@ -36,7 +36,7 @@ pub(super) trait FieldText: Sized {
 // The value that stands before the byte `end`, and what stands after that.
 pub(super) fn value_before<F: FieldText>(bytes: &[u8], end: u8) -> Option<(F, &[u8])>
     requires { end < 45 }
-    ensures { MatchOption result (NoFront (ended end text) fine bytes.now) (λ p. Front (ended end text) fine bytes.now p.0 p.1.now) }
+    ensures { MatchOption result (NoFront (ended end F.text) F.fine bytes.now) (λ p. Front (ended end F.text) F.fine bytes.now p.0 p.1.now) }
 {
     let (field, rest) = split_at_byte(bytes, end)?;
     let x = F::read(field)?;

@@ -51,7 +51,7 @@ pub(super) fn read_lines<R: LineText + Drop>(
     heap: Global,
     bytes: &[u8],
 ) -> Result<Vec<R>, FileFault>
-    ensures { MatchResult result (λ v. ReadsAs line writable bytes.now v.items) (Refuses line writable bytes.now) }
+    ensures { MatchResult result (λ v. ReadsAs R.line R.writable bytes.now v.items) (Refuses R.line R.writable bytes.now) }
 {
     let mut rows = Vec::new(heap);
     let mut left = bytes;

@@ -8,7 +8,7 @@ use Rattle.files.proofs.reading.read_lines.Given as given
 use Rattle.files.proofs.reading.read_lines.Goals as goal
 
 -- what follows a line is shorter
-falls : (g : given.Over) (c : goal.In-ok-push g) → length c.in-Some.rest.now < length c.loop-left.left.now
+falls : (g : given.Over) (c : goal.In_ok-push g) → length c.in-Some.rest.now < length c.loop-left.left.now
 falls g c =
     shorter g.R.LineText.line g.R.LineText.writable c.loop-left.left.now c.in-Some.row c.in-Some.rest.now c.in-Some.ensures
     (g.met.R.LineText.some c.in-Some.row)
