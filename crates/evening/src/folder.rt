@@ -33,7 +33,7 @@ fn contract_rows(rt: &HostRuntime, folder: &str) -> anyhow::Result<Vec<ContractR
     let bytes = file_bytes(rt, folder, "contracts")?;
     match read_contracts(rt.alloc(), bytes.as_slice()) {
         Ok(rows) => Ok(rows),
-        Err(fault) => Err(unread(rt, "contracts", fault)?.into()),
+        Err(fault) => Err(anyhow!(unread(rt, "contracts", fault)?)),
     }
 }
 
@@ -41,7 +41,7 @@ fn node_records(rt: &HostRuntime, folder: &str) -> anyhow::Result<Vec<NodeRecord
     let bytes = file_bytes(rt, folder, "nodes")?;
     match read_nodes(rt.alloc(), bytes.as_slice()) {
         Ok(nodes) => Ok(nodes),
-        Err(fault) => Err(unread(rt, "nodes", fault)?.into()),
+        Err(fault) => Err(anyhow!(unread(rt, "nodes", fault)?)),
     }
 }
 

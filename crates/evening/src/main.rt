@@ -11,11 +11,13 @@ mod words;
 ghost use Rattle.std.specs.Prelude.{◌≡◌, map, length, string_bytes, codes, Decides};
 ghost use Rattle.evening.specs.Words.{word_at};
 
+use anyhow::anyhow;
 use lines::Usage;
 use sharing::{LargestRemainderRule, RateRule, RunningRule};
 use sharing_out::shared;
 use std::alloc::{AllocError, Global};
 use std::env;
+use std::process::ExitCode;
 use task::Task;
 
 // The task, and a line for each rule: one text, which is there before anything is printed.
@@ -45,15 +47,16 @@ fn run(rt: &HostRuntime) -> anyhow::Result<()> {
     }
     match reading::read(heap, words.as_slice()) {
         Ok(task) => rt.println(report(heap, &task)?)?,
-        Err(fault) => return Err(lines::message(heap, words.as_slice(), &fault)?.into()),
+        Err(fault) => return Err(anyhow!(lines::message(heap, words.as_slice(), &fault)?)),
     }
     Ok(())
 }
 
-fn main(rt: HostRuntime) -> anyhow::Result<()> {
-    let done = run(&rt);
-    if let Err(error) = &done {
-        eprintln!(rt; "evening: {error}")?;
-    }
-    done
+// An error that `main` returned would be written a second time, so it answers a status.
+fn main(rt: HostRuntime) -> ExitCode {
+    let Err(error) = run(&rt) else {
+        return ExitCode::SUCCESS;
+    };
+    let _ = eprintln!(rt; "evening: {error}");
+    ExitCode::FAILURE
 }

@@ -28,8 +28,8 @@ loop-i-preserved c =
     let count = c.loop-i.invariant.0 in
     let read : IsWeight (word_at words i) × (c.in-Some.w ≡ weight_of (word_at words i)) =
     subst (λ bs. IsWeight bs × (c.in-Some.w ≡ weight_of bs)) (here (goal.at.loop-i-preserved c).After-weight) c.in-Some.ensures in
-    let last : get_or after i 0 ≡ c.in-Some.w = subst (λ k. get_or after k 0 ≡ c.in-Some.w) count (c.push.ensures.by_index.1 0 (ap is_ok c.in_ok-push.was)) in (
-      omega (arith, c.in_ok-push.ensures.len),
+    let last : get_or after i 0 ≡ c.in-Some.w = subst (λ k. get_or after k 0 ≡ c.in-Some.w) count (c.push.ensures.by_index.1 0 (ap is_ok c.in_ok-push-in-Some.was)) in (
+      omega (arith, c.in_ok-push-in-Some.ensures.len),
       below_more (λ k. IsWeight (word_at words k) × (get_or after k 0 ≡ weight_of (word_at words k))) i
           (λ k h. let so = c.loop-i.invariant.1 k h in (so.0, c.push.ensures.by_index.0 k 0 (omega arith) ∙ so.1))
           (read.0, last ∙ read.1),
