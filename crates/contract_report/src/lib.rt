@@ -1,4 +1,5 @@
 //! What the evening run prints of a contract table.
+#![tactic(auto)]
 
 mod chains;
 mod row_line;

@@ -1,4 +1,5 @@
 //! Contract tables: rows that lead on to each other, and the check that every chain of them ends.
+#![tactic(auto)]
 
 mod chain;
 mod check;

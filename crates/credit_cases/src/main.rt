@@ -1,6 +1,8 @@
 // A test of contract tables and chain credits on many cases. Each line of the input is one case: the contract rows, the
 // node records and the question, parted by `|`. What the crates answer is printed. The expected output is written by an
 // independent program, tools/credit_cases.py.
+#![tactic(auto)]
+
 mod reading;
 
 use contracts::{CheckedTable, ContractRow, check_contracts};

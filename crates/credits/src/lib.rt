@@ -1,4 +1,5 @@
 //! Congestion credits of transmission contracts: the price of a node, the credit of a row, and the credits along a chain.
+#![tactic(auto)]
 
 mod chains;
 mod credited;

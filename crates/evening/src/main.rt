@@ -1,6 +1,8 @@
 // The evening run: the program that a settlement analyst starts each evening, before the operator's statement is there.
 // For now it reports the contract table and the node records of a folder, or shares an amount of cents over weights by
 // each of the three sharing rules.
+#![tactic(auto)]
+
 mod folder;
 mod lines;
 mod reading;

@@ -1,5 +1,6 @@
 //! Examples of contract tables and node records that are read or refused, and of what is printed of tables, by hand from
 //! the rules.
+#![tactic(auto)]
 
 #[cfg(test)]
 mod tests {

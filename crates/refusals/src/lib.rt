@@ -1,4 +1,5 @@
 //! What every refused call answers, whatever layer refuses: a number, the layer and a place.
+#![tactic(auto)]
 
 ghost use Rattle.refusals.specs.Shown.{layer_word, refusal_words};
 ghost use Rattle.std.specs.Prelude.{Some};

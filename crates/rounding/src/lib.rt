@@ -1,6 +1,8 @@
 // The whole number nearest to a quotient, a half going away from zero.
 //
 // Rounding to the nearest is done here and nowhere else, so that two amounts cannot be rounded in two ways.
+#![tactic(auto)]
+
 mod halves;
 
 ghost use Rattle.std.specs.Prelude.{◌≡◌, ◌<◌, ◌≤◌, MatchOption, unsigned_abs};

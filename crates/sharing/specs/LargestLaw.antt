@@ -1,5 +1,5 @@
 -- The largest-remainder rule is exact, and keeps the one-cent law and its own. Assumes nothing.
-use Rattle.std.specs.Prelude.{◌≡◌, ℕ, zero, suc, ◌+◌, ◌-◌, ◌*◌, ◌<◌, ◌≤◌, true, false, ◌&&◌, ◌⊎◌, List, length, take, ℤ, pos, sum, ◌==◌, ◌≢◌, nat_lt, slice_index, unsigned_abs}
+use Rattle.std.specs.Prelude.{◌≡◌, ℕ, zero, suc, ◌+◌, ◌*◌, ◌<◌, ◌≤◌, true, false, ◌&&◌, ◌⊎◌, List, length, take, ℤ, pos, sum, ◌==◌, ◌≢◌, nat_lt, slice_index, unsigned_abs}
 use Rattle.std.proofs.Common.{sym, ◌∙◌, mul-zero, mul-div_cancel, add-one}
 use Rattle.std.proofs.Math.Path.{ap}
 use Rattle.std.proofs.Math.Logic.{inl, inr, ⊎_elim}

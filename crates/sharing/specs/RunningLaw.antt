@@ -1,5 +1,5 @@
 -- The running rule is exact, and keeps the one-cent law and its own. Assumes nothing.
-use Rattle.std.specs.Prelude.{◌≡◌, ℕ, ◌+◌, ◌-◌, ◌*◌, ◌/◌, ◌<◌, ◌≤◌, List, length, take, ℤ, pos, ◌+ℤ◌, sum, slice_index, slice_index_or, unsigned_abs}
+use Rattle.std.specs.Prelude.{◌≡◌, ℕ, ◌+◌, ◌*◌, ◌/◌, ◌<◌, ◌≤◌, List, length, take, ℤ, pos, ◌+ℤ◌, sum, slice_index, slice_index_or, unsigned_abs}
 use Rattle.std.proofs.Common.{sym, ap, ◌∙◌, mul-le-mul_left, mul-zero, mul-div_cancel, arith}
 use Rattle.std.proofs.Math.Nat.{zero-div}
 use Rattle.rounding.specs.Nearest.{signed}

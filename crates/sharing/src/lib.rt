@@ -2,6 +2,8 @@
 //
 // `SharingRule` is what every rule owes, and `ExactRule` what a rule owes that never leaves a rest. The three rules are
 // `RateRule`, `LargestRemainderRule` and `RunningRule`; the last two are exact.
+#![tactic(auto)]
+
 mod bounds;
 mod division;
 mod largest_remainder;

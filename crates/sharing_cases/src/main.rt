@@ -1,6 +1,8 @@
 // A test of the sharing rules on many cases. Each line of the input is one case: the number of cells of the share
 // table, the amount, and the weights. Each rule shares into a table of cells that hold 777 before, and what it answered
 // and left in the table is printed. The expected output is written by an independent program, tools/sharing_cases.py.
+#![tactic(auto)]
+
 use anyhow::Context;
 use sharing::{ExactRule, LargestRemainderRule, RateRule, RunningRule, SharingRule};
 use std::alloc::Global;
