@@ -1,6 +1,6 @@
 -- One answer is right for a file. Assumes nothing.
 use Rattle.std.proofs.Common.{◌≡◌, ℕ, ◌+◌, ◌<◌, List, [], ◌∷◌, ◌++◌, length, sym, refl, ap, ◌∙◌, append_assoc, arith, length-append}
-use Rattle.std.specs.List.{flat_map, AllByRecursion as All}
+use Rattle.std.specs.List.{flat_map, AllByRecursion}
 use Rattle.std.proofs.lemmas.List.{append-nil, append_cancel_left}
 use Rattle.files.specs.Fields.{NoFront, OneFront}
 use Rattle.files.specs.Files.{OneAnswer}
@@ -11,7 +11,7 @@ module _ {Row : Type 0} (line : Row → List ℕ) (Writable : Row → Type 0) (s
   none_at_end x rest fine e = let long = simp length-append at (ap length e) in omega (arith, some x)
 
   -- the lines at the front of bytes are those of one list of rows, if none begins what is left
-  same_rows : (xs ys : List Row) (left right : List ℕ) → All Writable xs → All Writable ys → NoFront line Writable left → NoFront line Writable right → flat_map line xs ++ left ≡ flat_map line ys ++ right → xs ≡ ys
+  same_rows : (xs ys : List Row) (left right : List ℕ) → AllByRecursion Writable xs → AllByRecursion Writable ys → NoFront line Writable left → NoFront line Writable right → flat_map line xs ++ left ≡ flat_map line ys ++ right → xs ≡ ys
   same_rows [] [] left right a b p q e = refl
   same_rows [] (y ∷ ys) left right a b p q e = absurd (p y (flat_map line ys ++ right) b.0 (e ∙ append_assoc (line y) (flat_map line ys) right))
   same_rows (x ∷ xs) [] left right a b p q e = absurd (q x (flat_map line xs ++ left) a.0 (sym e ∙ append_assoc (line x) (flat_map line xs) left))

@@ -1,14 +1,14 @@
 -- Files of lines: reading is the inverse of writing. `line` is what is written for a row, and Writable says which rows a
 -- file may hold.
 use Rattle.std.specs.Prelude.{◌≡◌, ℕ, ◌+◌, ◌<◌, List, ◌++◌, length}
-use Rattle.std.specs.List.{flat_map, AllByRecursion as All}
+use Rattle.std.specs.List.{flat_map, AllByRecursion}
 use Rattle.files.specs.declared.reading.FileFault.{FileFault}
 use Rattle.files.specs.declared.reading.FileFault.TheVariants.{Unreadable, Memory}
 use Rattle.files.specs.Fields.{NoFront}
 
 -- the bytes are the lines of these rows, one after another
 pub record ReadsAs {Row : Type 0} (line : Row → List ℕ) (Writable : Row → Type 0) (bytes : List ℕ) (rows : List Row) : Type 0 where
-  pub writable : All Writable rows
+  pub writable : AllByRecursion Writable rows
   pub written : bytes ≡ flat_map line rows
 
 -- the bytes begin with the lines of some rows, and what is left after them, the line of number n and on, is not nothing
@@ -16,7 +16,7 @@ pub record ReadsAs {Row : Type 0} (line : Row → List ℕ) (Writable : Row → 
 pub record FirstUnreadable {Row : Type 0} (line : Row → List ℕ) (Writable : Row → Type 0) (bytes : List ℕ) (n : ℕ) : Type 0 where
   pub rows : List Row
   pub left : List ℕ
-  pub writable : All Writable rows
+  pub writable : AllByRecursion Writable rows
   pub written : bytes ≡ flat_map line rows ++ left
   pub number : n ≡ length rows + 1
   pub some : 0 < length left

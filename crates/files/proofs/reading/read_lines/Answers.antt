@@ -1,5 +1,5 @@
 use Rattle.std.proofs.Common.{◌≡◌, ◌<◌, [], ◌∷◌, ◌++◌, length, vec_items, sym, refl, ap, ◌∙◌, subst, arith, rules}
-use Rattle.std.specs.List.{flat_map, AllByRecursion as All}
+use Rattle.std.specs.List.{flat_map, AllByRecursion}
 use Rattle.std.proofs.ByRecursion.{All-push}
 use Rattle.std.proofs.lemmas.List.{append-nil, nil_from_length}
 use Rattle.std.proofs.lemmas.Slice.{pushed}
@@ -26,7 +26,7 @@ loop-left-preserved g c =
     let front = c.in-Some.ensures in
     let items : vec_items c.push.new.self ≡ before ++ row ∷ [] = pushed {now = vec_items c.push.new.self} {r = c.push.result} (row ∷ []) refl c.in_ok-push.was c.push.ensures.items in
     let less = falls g c in (
-      subst (All Writable) (sym items) (All-push Writable before row c.loop-left.invariant.0 front.fine),
+      subst (AllByRecursion Writable) (sym items) (All-push Writable before row c.loop-left.invariant.0 front.fine),
       subst (λ rows. c.args.bytes.now ≡ flat_map line rows ++ rest) (sym items)
           (one_more line Writable c.loop-left.left.now row rest front c.args.bytes.now before c.loop-left.invariant.1),
       omega (arith, c.in_ok-push.ensures.len),
