@@ -1,4 +1,4 @@
--- What plain digits write, in words of `decimal` and `signed`. Assumes nothing.
+-- What plain digits write, in words of `decimal` and `signed_decimal`. Assumes nothing.
 use Rattle.std.specs.Prelude.{◌≡◌, ℕ, zero, suc, ◌+◌, ◌-◌, ◌*◌, ◌^◌, ◌<◌, ◌≤◌, List, ◌∷◌, map, length, take, drop, ℤ, pos, negsuc, neg_ℤ, Some, None, decimal, Option, MatchOption, ◌≢◌, slice_index, refl}
 use Rattle.std.proofs.Common.{sym, ap, subst, ◌∙◌, arith}
 use Rattle.std.specs.Int.Signed.{mag}
