@@ -11,6 +11,13 @@ use Rattle.files.specs.Lines.{comma, newline, contract_line, WritableRow, node_l
 use Rattle.files.specs.Spelling.{one_decimal, one_next, one_signed}
 use Rattle.files.specs.Splitting.{clean_decimal, clean_next, clean_signed, past, same_rest}
 
+-- the bytes of a comma and of a newline are below that of a minus
+pub comma_low : 44 < 45
+comma_low = omega arith
+
+pub newline_low : 10 < 45
+newline_low = omega arith
+
 regroup : (a : List ℕ) (end : ℕ) (b c : List ℕ) → ((a ++ end ∷ []) ++ b) ++ c ≡ a ++ end ∷ (b ++ c)
 regroup a end b c = simp append_assoc
 
@@ -78,7 +85,7 @@ module _ {Row : Type 0} {Writable : Row → Type 0} where
 
   abbrev pub number_part : (field : Row → ℕ) → ((row : Row) → Writable row → Small (field row)) → Part Row Writable
   number_part field fine =
-      record { Value = ℕ; field = field; text = decimal; Fine = Small; end = 44; clean = clean_decimal 44 (omega arith); one = one_decimal; fine = fine }
+      record { Value = ℕ; field = field; text = decimal; Fine = Small; end = 44; clean = clean_decimal 44 comma_low; one = one_decimal; fine = fine }
 
   abbrev pub price_part : (end : ℕ) → end < 45 → (field : Row → ℤ) → ((row : Row) → Writable row → SmallPrice (field row)) → Part Row Writable
   price_part end low field fine =
@@ -86,7 +93,7 @@ module _ {Row : Type 0} {Writable : Row → Type 0} where
 
 abbrev pub next_part : Part ContractRow WritableRow
 next_part =
-    record { Value = Option ℕ; field = λ row. row.next; text = next_text; Fine = SmallNext; end = 10; clean = clean_next 10 (omega arith); one = one_next; fine = λ row w. w.next }
+    record { Value = Option ℕ; field = λ row. row.next; text = next_text; Fine = SmallNext; end = 10; clean = clean_next 10 newline_low; one = one_next; fine = λ row w. w.next }
 
 abbrev pub contract_parts : List (Part ContractRow WritableRow)
 contract_parts =
@@ -104,8 +111,8 @@ abbrev pub node_parts : List (Part NodeRecord WritableNode)
 node_parts =
     number_part (λ node. node.fifteen_minute_deviation) (λ node w. w.fifteen_minute_deviation)
     ∷ number_part (λ node. node.dispatch_deviation) (λ node w. w.dispatch_deviation)
-    ∷ price_part 44 (omega arith) (λ node. node.fifteen_minute_price) (λ node w. w.fifteen_minute_price)
-    ∷ price_part 10 (omega arith) (λ node. node.dispatch_price) (λ node w. w.dispatch_price)
+    ∷ price_part 44 comma_low (λ node. node.fifteen_minute_price) (λ node w. w.fifteen_minute_price)
+    ∷ price_part 10 newline_low (λ node. node.dispatch_price) (λ node w. w.dispatch_price)
     ∷ []
 
 four : (a b c d : List ℕ) → a ++ comma ++ b ++ comma ++ c ++ comma ++ d ++ newline ≡ (a ++ comma) ++ ((b ++ comma) ++ ((c ++ comma) ++ ((d ++ newline) ++ [])))
