@@ -15,12 +15,12 @@ pub enum TableFault {
     NoHead,
 }
 
-impl TableFault {
-    /// The number, layer and place under which the fault is reported.
-    pub fn refusal(self) -> Refusal
-        ensures { result ≡ table_refusal self }
-    {
-        let (number, place) = match self {
+/// The number, layer and place under which a fault is reported.
+impl From<TableFault> for Refusal {
+    ghost from_gives = { λ fault refusal. refusal ≡ table_refusal fault };
+
+    fn from(fault: TableFault) -> Refusal {
+        let (number, place) = match fault {
             TableFault::TooManyRows => (1, 0),
             TableFault::Capacity(row) => (2, row),
             TableFault::NextNoRow(row) => (3, row),

@@ -1,8 +1,10 @@
 // Rounding by quotient and remainder, which overflows nowhere.
 ghost use Rattle.std.specs.Prelude.{◌≡◌, ◌+◌, ◌*◌, ◌/◌, ◌%◌, ◌^◌, ◌<◌, ◌≤◌, nat_le};
+ghost use Rattle.std.specs.Int.NonZero.{non_zero_u64_get};
 ghost use Rattle.rounding.specs.Nearest.{half_up, Rounded};
 
 use super::with_sign;
+use std::num::NonZeroU64;
 
 // Whether the remainder `left` of a division by `d` is at least half of `d`.
 fn at_least_half(left: u64, d: u64) -> bool
@@ -13,17 +15,16 @@ fn at_least_half(left: u64, d: u64) -> bool
 }
 
 // The whole number nearest to `m / d`, a half going up. The size of an `i64` leaves room for one more.
-fn half_up(m: u64, d: u64) -> u64
-    requires { (0 < d) × (m ≤ 2 ^ 63) }
-    ensures { result ≡ half_up m d }
+fn half_up(m: u64, d: NonZeroU64) -> u64
+    requires { m ≤ 2 ^ 63 }
+    ensures { result ≡ half_up m (non_zero_u64_get d) }
 {
-    m / d + u64::from(at_least_half(m % d, d))
+    m / d + u64::from(at_least_half(m % d, d.get()))
 }
 
 // The whole number nearest to `n / d`, with the law that singles it out.
-pub(super) fn nearest_quotient(n: i64, d: u64) -> i64
-    requires { 0 < d }
-    ensures { Rounded n d result }
+pub(super) fn nearest_quotient(n: i64, d: NonZeroU64) -> i64
+    ensures { Rounded n (non_zero_u64_get d) result }
 {
     with_sign(n, half_up(n.unsigned_abs(), d)).unwrap()
 }

@@ -6,10 +6,12 @@
 mod halves;
 
 ghost use Rattle.std.specs.Prelude.{◌≡◌, ◌<◌, ◌≤◌, MatchOption, unsigned_abs};
+ghost use Rattle.std.specs.Int.NonZero.{non_zero_u64_get};
 ghost use Rattle.std.specs.Option.{SomeIff};
 ghost use Rattle.rounding.specs.Nearest.{signed, Rounded};
 
 use halves::nearest_quotient;
+use std::num::NonZeroU64;
 
 // A part of `n`: `size` with the sign of `n`; `None` where `size` is larger than that of `n`.
 pub fn with_sign(n: i64, size: u64) -> Option<i64>
@@ -27,14 +29,19 @@ pub fn with_sign(n: i64, size: u64) -> Option<i64>
     })
 }
 
-// The whole number nearest to `n / d`, a half going away from zero; `None` where `d` is 0.
+// The whole number nearest to `n / d`, a half going away from zero.
+pub fn nearest_by(n: i64, d: NonZeroU64) -> i64
+    ensures { Rounded n (non_zero_u64_get d) result }
+{
+    nearest_quotient(n, d)
+}
+
+// The same of any divisor; `None` where it is 0.
 pub fn nearest(n: i64, d: u64) -> Option<i64>
     ensures { MatchOption result (d ≡ 0) (λ q. (0 < d) × Rounded n d q) }
 {
-    if d == 0 {
-        return None;
-    }
-    Some(nearest_quotient(n, d))
+    let d = NonZeroU64::new(d)?;
+    Some(nearest_by(n, d))
 }
 
 #[cfg(test)]
