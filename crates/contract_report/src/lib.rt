@@ -10,13 +10,14 @@ ghost use Rattle.std.specs.Prelude.{◌≡◌, IfOk, string_bytes};
 
 use chains::table_text;
 use contracts::{CheckedTable, ContractRow, TableFault, check_contracts};
+use refusals::Refusal;
 use std::alloc::{AllocError, Global};
 
 // The line of a refusal.
 fn refused_text(heap: Global, fault: TableFault) -> Result<String, AllocError>
     ensures { IfOk result (λ text. string_bytes text ≡ refusal_line (table_refusal fault)) }
 {
-    let refusal = fault.refusal();
+    let refusal = Refusal::from(fault);
     format!(in heap; "contracts: {refusal}\n")
 }
 

@@ -8,11 +8,12 @@ mod reading;
 use contracts::{CheckedTable, ContractRow, check_contracts};
 use credits::{NodeRecord, balanced_quantity, chain_credits, node_price};
 use reading::{Case, read};
+use refusals::Refusal;
 
 fn print_check(rt: &HostRuntime, rows: &[ContractRow]) -> anyhow::Result<()> {
     match check_contracts(rows) {
         Ok(count) => println!(rt; "check: {count} rows")?,
-        Err(fault) => println!(rt; "check: {}", fault.refusal())?,
+        Err(fault) => println!(rt; "check: {}", Refusal::from(fault))?,
     }
     Ok(())
 }
@@ -33,7 +34,7 @@ fn print_prices(rt: &HostRuntime, nodes: &[NodeRecord]) -> anyhow::Result<()> {
     for (node, _record) in nodes.iter().enumerate() {
         match node_price(nodes, node) {
             Ok(price) => print!(rt; " {price}")?,
-            Err(fault) => print!(rt; " ({})", fault.refusal())?,
+            Err(fault) => print!(rt; " ({})", Refusal::from(fault))?,
         }
     }
     println!(rt; "")?;
@@ -43,7 +44,7 @@ fn print_prices(rt: &HostRuntime, nodes: &[NodeRecord]) -> anyhow::Result<()> {
 fn print_balanced(rt: &HostRuntime, table: &CheckedTable, case: &Case) -> anyhow::Result<()> {
     match balanced_quantity(table, case.head, case.schedule) {
         Ok(b) => println!(rt; "balanced: {}", b.milli_mwh)?,
-        Err(fault) => println!(rt; "balanced: {}", fault.refusal())?,
+        Err(fault) => println!(rt; "balanced: {}", Refusal::from(fault))?,
     }
     Ok(())
 }
@@ -51,7 +52,7 @@ fn print_balanced(rt: &HostRuntime, table: &CheckedTable, case: &Case) -> anyhow
 fn print_credits(rt: &HostRuntime, table: &CheckedTable, case: &Case) -> anyhow::Result<()> {
     match chain_credits(table, case.head, case.nodes.as_slice(), case.schedule) {
         Ok(credits) => println!(rt; "credits: {:?}", credits.as_slice())?,
-        Err(fault) => println!(rt; "credits: {}", fault.refusal())?,
+        Err(fault) => println!(rt; "credits: {}", Refusal::from(fault))?,
     }
     Ok(())
 }

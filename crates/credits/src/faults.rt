@@ -13,12 +13,12 @@ pub enum PriceFault {
     OutOfBounds(usize),
 }
 
-impl PriceFault {
-    /// The refusal of a call that meets this fault.
-    pub fn refusal(self) -> Refusal
-        ensures { result ≡ price_refusal self }
-    {
-        let (number, place) = match self {
+/// The number, layer and place under which a fault is reported.
+impl From<PriceFault> for Refusal {
+    ghost from_gives = { λ fault refusal. refusal ≡ price_refusal fault };
+
+    fn from(fault: PriceFault) -> Refusal {
+        let (number, place) = match fault {
             PriceFault::NoRecord(node) => (15, node),
             PriceFault::OutOfBounds(node) => (16, node),
         };
@@ -47,13 +47,13 @@ pub enum CreditFault {
     Prices(PriceFault),
 }
 
-impl CreditFault {
-    /// The refusal of a call that meets this fault.
-    pub fn refusal(self) -> Refusal
-        ensures { result ≡ credit_refusal self }
-    {
-        match self {
-            CreditFault::Table(fault) => fault.refusal(),
+/// A fault of the table or of the prices keeps the refusal of its own.
+impl From<CreditFault> for Refusal {
+    ghost from_gives = { λ fault refusal. refusal ≡ credit_refusal fault };
+
+    fn from(fault: CreditFault) -> Refusal {
+        match fault {
+            CreditFault::Table(fault) => fault.into(),
             CreditFault::Quantity(quantity) => Refusal {
                 number: 14,
                 layer: Layer::Book,
@@ -63,7 +63,7 @@ impl CreditFault {
                     Scheduled::DayAhead => 2,
                 },
             },
-            CreditFault::Prices(fault) => fault.refusal(),
+            CreditFault::Prices(fault) => fault.into(),
         }
     }
 }
