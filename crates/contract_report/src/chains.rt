@@ -8,11 +8,10 @@ use contracts::{ChainRows, CheckedTable};
 use std::alloc::{AllocError, Global};
 
 // Adds a line to a text.
-fn add_line(heap: Global, text: &mut String, line: RowLine) -> Result<(), AllocError>
+fn add_line(text: &mut String, line: RowLine) -> Result<(), AllocError>
     ensures { OnOk result (string_bytes text.new ≡ string_bytes text.old ++ (row_words line.head line.place line.row ++ (10 ∷ []))) }
 {
-    let line = format!(in heap; "{line}\n")?;
-    text.push_str(line.as_str())
+    writeln!(text, "{line}")
 }
 
 // The lines of the rows that a walk has before it, on the chain that begins at row `head`.
@@ -21,7 +20,7 @@ fn chain_text(heap: Global, walk: ChainRows, head: usize) -> Result<String, Allo
 {
     let mut text = String::new(heap);
     for (place, row) in walk {
-        add_line(heap, &mut text, RowLine { head, place, row })?;
+        add_line(&mut text, RowLine { head, place, row })?;
     }
     Ok(text)
 }

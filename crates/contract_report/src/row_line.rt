@@ -17,15 +17,9 @@ impl fmt::Display for RowLine {
     ghost output = { λ x. Some (row_words x.head x.place x.row) };
 
     fn fmt<W: fmt::Write>(&self, f: &mut fmt::Formatter<W>) -> fmt::Result {
-        let head = self.head;
-        let place = self.place;
-        let party = self.row.party;
-        let capacity = self.row.capacity;
-        let receipt = self.row.receipt;
-        let delivery = self.row.delivery;
-        write!(
-            f,
-            "chain {head}: row {place} party {party} capacity {capacity} receipt {receipt} delivery {delivery}"
-        )
+        let row = self.row;
+        write!(f, "chain {}: row {} party {}", self.head, self.place, row.party)?;
+        write!(f, " capacity {}", row.capacity)?;
+        write!(f, " receipt {} delivery {}", row.receipt, row.delivery)
     }
 }

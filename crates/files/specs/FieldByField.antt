@@ -1,7 +1,7 @@
 -- Lines that are read field by field: a line is not read where one of its fields is not, and is read where all are.
 -- Assumes nothing.
 use Rattle.std.specs.Prelude.{◌≡◌, ℕ, ◌<◌, ◌⊎◌, List, [], ◌∷◌, ◌++◌, length, ℤ, decimal, Option}
-use Rattle.std.proofs.Common.{sym, ap, ◌∙◌, append_assoc, inl, inr, arith, length-append}
+use Rattle.std.proofs.Common.{sym, refl, ap, ◌∙◌, append_assoc, inl, inr, arith, length-append}
 use Rattle.std.specs.Fmt.{signed_decimal}
 use Rattle.std.proofs.lemmas.List.{append-nil}
 use Rattle.contracts.specs.declared.rows.ContractRow.{ContractRow}
@@ -130,12 +130,28 @@ no_contract bytes unread row rest w e =
 pub a_contract : (bytes rest : List ℕ) (row : ContractRow) → Read row contract_parts bytes rest → bytes ≡ contract_line row ++ rest
 a_contract bytes rest row read = a_line row contract_parts bytes rest read ∙ ap (λ l. l ++ rest) (sym (contract_text row))
 
+-- a row whose fields are read one after another
+pub contract_front : (bytes a b c d rest : List ℕ) (party capacity receipt delivery : ℕ) (next : Option ℕ) → Front (ended 44 decimal) Small bytes party a → Front (ended 44 decimal) Small a capacity b → Front (ended 44 decimal) Small b receipt c → Front (ended 44 decimal) Small c delivery d → Front (ended 10 next_text) SmallNext d next rest → Front contract_line WritableRow bytes (record { party = party; capacity = capacity; receipt = receipt; delivery = delivery; next = next }) rest
+contract_front bytes a b c d rest party capacity receipt delivery next p q r s t =
+    record {
+      fine = record { party = p.fine; capacity = q.fine; receipt = r.fine; delivery = s.fine; next = t.fine };
+      written = a_contract bytes rest _ (_, p, (_, q, (_, r, (_, s, (_, t, refl)))));
+    }
+
 pub no_node : (bytes : List ℕ) → Unread node_parts bytes → NoFront node_line WritableNode bytes
 no_node bytes unread node rest w e =
     no_line node_parts bytes unread node rest w (e ∙ ap (λ l. l ++ rest) (node_text node))
 
 pub a_node : (bytes rest : List ℕ) (node : NodeRecord) → Read node node_parts bytes rest → bytes ≡ node_line node ++ rest
 a_node bytes rest node read = a_line node node_parts bytes rest read ∙ ap (λ l. l ++ rest) (sym (node_text node))
+
+-- a record whose fields are read one after another
+pub node_front : (bytes a b c rest : List ℕ) (fifteen_minute_deviation dispatch_deviation : ℕ) (fifteen_minute_price dispatch_price : ℤ) → Front (ended 44 decimal) Small bytes fifteen_minute_deviation a → Front (ended 44 decimal) Small a dispatch_deviation b → Front (ended 44 signed_decimal) SmallPrice b fifteen_minute_price c → Front (ended 10 signed_decimal) SmallPrice c dispatch_price rest → Front node_line WritableNode bytes (record { fifteen_minute_deviation = fifteen_minute_deviation; dispatch_deviation = dispatch_deviation; fifteen_minute_price = fifteen_minute_price; dispatch_price = dispatch_price }) rest
+node_front bytes a b c rest first second third fourth p q r s =
+    record {
+      fine = record { fifteen_minute_deviation = p.fine; dispatch_deviation = q.fine; fifteen_minute_price = r.fine; dispatch_price = s.fine };
+      written = a_node bytes rest _ (_, p, (_, q, (_, r, (_, s, refl))));
+    }
 
 -- of each kind bytes begin with one line at most
 same_row : (a a' b b' c c' d d' : ℕ) (e e' : Option ℕ) → a ≡ a' → b ≡ b' → c ≡ c' → d ≡ d' → e ≡ e' → ◌≡◌ {A = ContractRow} record { party = a; capacity = b; receipt = c; delivery = d; next = e } record { party = a'; capacity = b'; receipt = c'; delivery = d'; next = e' }

@@ -45,6 +45,12 @@ pub record Valued (field : List ℕ) (n : ℕ) : Type 0 where
 abbrev pub Lacks : ℕ → List ℕ → Type 0
 Lacks b text = (k : ℕ) → k < length text → slice_index text k ≢ b
 
+-- the first such byte stands at place i
+pub record FirstAt (b : ℕ) (text : List ℕ) (i : ℕ) : Type 0 where
+  pub inside : i < length text
+  pub here : slice_index text i ≡ b
+  pub before : (k : ℕ) → k < i → slice_index text k ≢ b
+
 -- the bytes are a field, the first byte of this kind, and the rest
 pub record Ended (end : ℕ) (bytes field rest : List ℕ) : Type 0 where
   pub whole : bytes ≡ field ++ end ∷ rest

@@ -1,6 +1,6 @@
 -- Files of lines: reading is the inverse of writing. `line` is what is written for a row, and Writable says which rows a
 -- file may hold.
-use Rattle.std.specs.Prelude.{◌≡◌, ℕ, ◌+◌, ◌<◌, List, ◌++◌, length}
+use Rattle.std.specs.Prelude.{◌≡◌, ℕ, ◌+◌, ◌<◌, List, ◌++◌, length, codes, decimal}
 use Rattle.std.specs.List.{flat_map, AllByRecursion}
 use Rattle.files.specs.declared.reading.FileFault.{FileFault}
 use Rattle.files.specs.declared.reading.FileFault.TheVariants.{Unreadable, Memory}
@@ -26,6 +26,11 @@ pub record FirstUnreadable {Row : Type 0} (line : Row → List ℕ) (Writable : 
 abbrev pub Refuses : {Row : Type 0} → (Row → List ℕ) → (Row → Type 0) → List ℕ → FileFault → Type 0
 Refuses line Writable bytes (Unreadable n) = FirstUnreadable line Writable bytes n
 Refuses line Writable bytes Memory = Unit {0}
+
+-- what is printed of a fault
+abbrev pub fault_words : FileFault → List ℕ
+fault_words (Unreadable n) = codes "unreadable line " ++ decimal n
+fault_words Memory = codes "not enough memory"
 
 -- One answer is right for the bytes of a file: one list of rows, or one line that is the first unreadable one.
 pub record OneAnswer {Row : Type 0} (line : Row → List ℕ) (Writable : Row → Type 0) : Type 0 where

@@ -1,8 +1,8 @@
 -- What plain digits write, in words of `decimal` and `signed_decimal`. Assumes nothing.
-use Rattle.std.specs.Prelude.{◌≡◌, ℕ, zero, suc, ◌+◌, ◌-◌, ◌*◌, ◌^◌, ◌<◌, ◌≤◌, List, ◌∷◌, map, length, take, drop, ℤ, pos, negsuc, neg_ℤ, Some, None, decimal, Option, MatchOption, ◌≢◌, slice_index, refl}
+use Rattle.std.specs.Prelude.{◌≡◌, ℕ, zero, suc, ◌+◌, ◌-◌, ◌*◌, ◌^◌, ◌<◌, ◌≤◌, List, [], ◌∷◌, map, length, take, drop, ℤ, pos, negsuc, neg_ℤ, Some, None, Ok, decimal, Option, Result, MatchOption, ◌≢◌, slice_index, refl}
 use Rattle.std.proofs.Common.{sym, ap, subst, ◌∙◌, arith}
 use Rattle.std.specs.Int.Signed.{mag}
-use Rattle.std.specs.Str.Parse.{AllDigits, digits_value}
+use Rattle.std.specs.Str.Parse.{AllDigits, digits_value, ParsesUnsigned}
 use Rattle.std.specs.Int.{IsInRange}
 use Rattle.std.specs.Char.{digit_value}
 use Rattle.std.specs.Fmt.{signed_decimal}
@@ -10,7 +10,7 @@ use Rattle.std.specs.Int.Digits.{number_from_digits, number_from_digits_after}
 use Rattle.std.proofs.lemmas.Fmt.{decimal_digit, decimal_nonempty, decimal-digits_value, digits_decimal, first_decimal, decimal_injective, signed_decimal_injective, digits_value-decimal}
 use Rattle.std.proofs.lemmas.Int.Digits.{digits_more, number_after_append, number_after_ge, digits_value_is, digits_value_more}
 use Rattle.std.proofs.lemmas.List.{map-append, take-append-drop}
-use Rattle.std.proofs.lemmas.Str.Parse.{IsNumeralModel, not_in_digits, numerals_by_value, tells_digits}
+use Rattle.std.proofs.lemmas.Str.Parse.{IsNumeralModel, digit_at, parse_gives, not_in_digits, numerals_by_value, tells_digits}
 use Rattle.std.proofs.lemmas.Str.{digit_value_digit}
 use Rattle.files.specs.Fields.{Small, SmallPrice, SmallNext, next_text, Unpadded, Valued, IsText, NoText, Lacks}
 
@@ -35,6 +35,15 @@ module _ (ds : List ℕ) (i : ℕ) (within : i < length ds) (digit : IsInRange 4
   pub value_step : (v : ℕ) → v ≡ digits_value 10 (take i ds) → v * 10 + (slice_index ds i - 48) ≡ digits_value 10 (take (i + 1) ds)
   value_step v so_far = omega (arith, digits_value_more 10 ds i within, digit_value_digit (slice_index ds i) digit)
 
+some_from_digit : (field : List ℕ) → IsInRange 48 57 (slice_index field 0) → 0 < length field
+some_from_digit [] digit = absurd (omega (arith, digit))
+some_from_digit (b ∷ bs) digit = omega arith
+
+-- what begins with a digit and is not parsed is no digits of a small value
+pub unvalued : {E : Type 0} (field : List ℕ) (r : Result ℕ E) → IsInRange 48 57 (slice_index field 0) → ParsesUnsigned 32 10 field r → ((x : ℕ) → r ≡ Ok x → ⊥) → (n : ℕ) → Valued field n → ⊥
+unvalued field r digit parsed none n v =
+    none (digits_value 10 field) (parse_gives plain 32 field r parsed v.digits (some_from_digit field digit) (omega (arith, v.is, v.small)))
+
 -- digits with no 0 too many are what is written of their value
 pub text_from_valued : (field : List ℕ) (n : ℕ) → Unpadded field → Valued field n → IsText decimal Small field n
 text_from_valued field n u v =
@@ -53,8 +62,12 @@ unpadded_decimal zero low = record { some = decimal_nonempty 0 low; alone = λ _
 unpadded_decimal (suc k) low =
     record { some = decimal_nonempty (suc k) low; alone = λ e. absurd (omega (arith, e, first_decimal (suc k) (omega arith) low)) }
 
-pub no_text_from_padded : (field : List ℕ) → (Unpadded field → ⊥) → NoText decimal Small field
-no_text_from_padded field padded n small e = padded (subst Unpadded (sym e) (unpadded_decimal n (omega arith)))
+-- and begins with a digit
+pub no_text_from_unspelled : (field : List ℕ) → (Unpadded field → IsInRange 48 57 (slice_index field 0) → ⊥) → NoText decimal Small field
+no_text_from_unspelled field none n small e =
+    let low : n < 2 ^ 64 = omega arith in
+    let first = digit_at (decimal n) 0 (digits_decimal plain n low) (decimal_nonempty n low) in
+    none (subst Unpadded (sym e) (unpadded_decimal n low)) (subst (λ ds. IsInRange 48 57 (slice_index ds 0)) (sym e) first)
 
 -- a reading by cases, from another
 pub cases_from : {X : Type 0} (o : Option X) {P P' : Type 0} {Q Q' : X → Type 0} → MatchOption o P Q → (P → P') → ((x : X) → Q x → Q' x) → MatchOption o P' Q'

@@ -1,22 +1,25 @@
 // Fields at the front of bytes: each is ended by a byte, and what follows is handed on.
 ghost use Rattle.std.specs.Prelude.{ℕ, ◌<◌, List, MatchOption};
-ghost use Rattle.files.specs.Fields.{IsText, NoText, Lacks, Ended, ended, Front, NoFront};
+ghost use Rattle.files.specs.Fields.{IsText, NoText, Lacks, FirstAt, Ended, ended, Front, NoFront};
 
 // The byte between two fields.
 pub(super) const COMMA: u8 = b',';
 // The byte after a line.
 pub(super) const NEWLINE: u8 = b'\n';
 
+// Where the first such byte stands.
+fn place_of(bytes: &[u8], end: u8) -> Option<usize>
+    ensures { MatchOption result (Lacks end bytes.now) (FirstAt end bytes.now) }
+{
+    bytes.iter().position(|b| *b == end)
+}
+
 // What stands before the first such byte, and what stands after it.
 fn split_at_byte(bytes: &[u8], end: u8) -> Option<(&[u8], &[u8])>
     ensures { MatchOption result (Lacks end bytes.now) (λ p. Ended end bytes.now p.0.now p.1.now) }
 {
-    for (i, b) in bytes.iter().enumerate() {
-        if *b == end {
-            return Some((&bytes[..i], &bytes[i + 1..]));
-        }
-    }
-    None
+    let i = place_of(bytes, end)?;
+    Some((&bytes[..i], &bytes[i + 1..]))
 }
 
 // A kind of value that fields hold. The bytes of its text are never below the minus, so a comma or a newline ends it.

@@ -8,6 +8,4 @@ mod node_lines;
 mod numbers;
 mod reading;
 
-pub use contract_lines::read_contracts;
-pub use node_lines::read_nodes;
-pub use reading::FileFault;
+pub use reading::{FileFault, LineText, read_rows};

@@ -40,9 +40,6 @@ impl fmt::Display for Refusal {
     ghost output = { λ x. Some (refusal_words x) };
 
     fn fmt<W: fmt::Write>(&self, f: &mut fmt::Formatter<W>) -> fmt::Result {
-        let number = self.number;
-        let layer = self.layer;
-        let place = self.place;
-        write!(f, "refused {number} {layer} {place}")
+        write!(f, "refused {} {} {}", self.number, self.layer, self.place)
     }
 }

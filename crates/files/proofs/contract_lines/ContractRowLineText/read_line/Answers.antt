@@ -1,7 +1,7 @@
-use Rattle.std.proofs.Common.{sym, refl, subst, inl, inr}
+use Rattle.std.proofs.Common.{sym, subst, inl, inr}
 use Rattle.files.specs.Fields.{Front}
 use Rattle.files.specs.Lines.{contract_line, WritableRow}
-use Rattle.files.specs.FieldByField.{a_contract, no_contract}
+use Rattle.files.specs.FieldByField.{contract_front, no_contract}
 use Rattle.files.proofs.contract_lines.ContractRowLineText.read_line.Goals as goal
 
 pub returns-in_err-party : goal.returns-in_err-party
@@ -26,14 +26,5 @@ returns-in_err-next c =
 
 pub returns : goal.returns
 returns c =
-    subst (λ row. Front contract_line WritableRow c.args.bytes.now row c.in_ok-next.rest.now) (sym c.row_of.ensures) record {
-      fine = record {
-        party = c.in_ok-party.ensures.fine;
-        capacity = c.in_ok-capacity.ensures.fine;
-        receipt = c.in_ok-receipt.ensures.fine;
-        delivery = c.in_ok-delivery.ensures.fine;
-        next = c.in_ok-next.ensures.fine;
-      };
-      written = a_contract c.args.bytes.now c.in_ok-next.rest.now _
-          (_, c.in_ok-party.ensures, (_, c.in_ok-capacity.ensures, (_, c.in_ok-receipt.ensures, (_, c.in_ok-delivery.ensures, (_, c.in_ok-next.ensures, refl)))));
-    }
+    subst (λ row. Front contract_line WritableRow c.args.bytes.now row c.in_ok-next.rest.now) (sym c.row_of.ensures)
+    (contract_front _ _ _ _ _ _ _ _ _ _ _ c.in_ok-party.ensures c.in_ok-capacity.ensures c.in_ok-receipt.ensures c.in_ok-delivery.ensures c.in_ok-next.ensures)
