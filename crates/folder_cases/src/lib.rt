@@ -5,7 +5,9 @@
 #[cfg(test)]
 mod tests {
     use contract_report::contract_report;
-    use files::{FileFault, read_contracts, read_nodes};
+    use contracts::ContractRow;
+    use credits::NodeRecord;
+    use files::{FileFault, LineText, read_rows};
     use std::alloc::Global;
     use std::test::Fail;
 
@@ -79,20 +81,13 @@ mod tests {
         ("0,1,0,1,1\n0,1,2,2,\n", "contracts: refused 4 table 0\n"),
     ];
 
-    fn contracts_in(heap: Global, text: &str) -> Result<usize, FileFault> {
-        Ok(read_contracts(heap, text.as_bytes())?.len())
-    }
-
-    fn nodes_in(heap: Global, text: &str) -> Result<usize, FileFault> {
-        Ok(read_nodes(heap, text.as_bytes())?.len())
+    fn rows_in<R: LineText + Drop>(heap: Global, text: &str) -> Result<usize, FileFault> {
+        Ok(read_rows::<R>(heap, text.as_bytes())?.len())
     }
 
     fn report_of(heap: Global, text: &str) -> Result<String, FileFault> {
-        let rows = read_contracts(heap, text.as_bytes())?;
-        match contract_report(heap, rows.as_slice()) {
-            Ok(report) => Ok(report),
-            Err(_) => Err(FileFault::Memory),
-        }
+        let rows = read_rows(heap, text.as_bytes())?;
+        Ok(contract_report(heap, rows.as_slice())?)
     }
 
     #[test]
@@ -109,10 +104,10 @@ mod tests {
     #[test]
     fn files(rt: HostRuntime) {
         for (text, wanted) in CONTRACTS {
-            assert_eq!(rt; contracts_in(rt.alloc(), text), wanted);
+            assert_eq!(rt; rows_in::<ContractRow>(rt.alloc(), text), wanted);
         }
         for (text, wanted) in NODES {
-            assert_eq!(rt; nodes_in(rt.alloc(), text), wanted);
+            assert_eq!(rt; rows_in::<NodeRecord>(rt.alloc(), text), wanted);
         }
     }
 }
