@@ -44,11 +44,12 @@ struct Row<'a, T>(&'a [T]);
 
 impl<'a, T: fmt::Display> fmt::Display for Row<'a, T> {
     fn fmt<W: fmt::Write>(&self, f: &mut fmt::Formatter<W>) -> fmt::Result {
-        for (i, x) in self.0.iter().enumerate() {
-            if i > 0 {
-                f.write_str(", ")?;
-            }
-            write!(f, "{x}")?;
+        let Some((first, others)) = self.0.split_first() else {
+            return Ok(());
+        };
+        write!(f, "{first}")?;
+        for x in others {
+            write!(f, ", {x}")?;
         }
         Ok(())
     }
@@ -56,12 +57,11 @@ impl<'a, T: fmt::Display> fmt::Display for Row<'a, T> {
 
 impl fmt::Display for Task {
     fn fmt<W: fmt::Write>(&self, f: &mut fmt::Formatter<W>) -> fmt::Result {
-        let amount = self.amount;
         let weights = Row(self.weights.as_slice());
-        let total = self.total;
         write!(
             f,
-            "sharing {amount} cents over weights {weights} ({total} in all)"
+            "sharing {} cents over weights {weights} ({} in all)",
+            self.amount, self.total
         )
     }
 }
@@ -69,8 +69,7 @@ impl fmt::Display for Task {
 impl fmt::Display for Shares {
     fn fmt<W: fmt::Write>(&self, f: &mut fmt::Formatter<W>) -> fmt::Result {
         let shares = Row(self.shares.as_slice());
-        let rest = self.rest;
-        write!(f, "shares {shares}; rest {rest}")
+        write!(f, "shares {shares}; rest {}", self.rest)
     }
 }
 

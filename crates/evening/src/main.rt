@@ -10,10 +10,10 @@ mod sharing_out;
 mod task;
 mod words;
 
-ghost use Rattle.std.specs.Prelude.{◌≡◌, map, length, string_bytes, codes, Decides};
+ghost use Rattle.std.specs.Prelude.{◌≡◌, map, length, string_bytes, codes, ◌↔◌, IsTrue};
 ghost use Rattle.evening.specs.Words.{word_at};
 
-use anyhow::anyhow;
+use anyhow::bail;
 use lines::Usage;
 use sharing::{LargestRemainderRule, RateRule, RunningRule};
 use sharing_out::shared;
@@ -32,24 +32,29 @@ fn report(heap: Global, task: &Task) -> Result<String, AllocError> {
 
 // Whether the words ask for the usage: `--help` alone.
 fn asks_usage(words: &[String]) -> bool
-    ensures { Decides result ((length words.now ≡ 1) × (word_at (map string_bytes words.now) 0 ≡ codes "--help")) }
+    ensures { IsTrue result ↔ ((length words.now ≡ 1) × (word_at (map string_bytes words.now) 0 ≡ codes "--help")) }
 {
-    words.len() == 1 && words[0].as_str() == "--help"
+    match words {
+        [word] => word.as_str() == "--help",
+        _ => false,
+    }
+}
+
+// Shares as the words ask, and prints the shares.
+fn share(rt: &(impl Print + AllocGlobal), words: &[String]) -> anyhow::Result<()> {
+    match reading::read(rt.alloc(), words) {
+        Ok(task) => rt.println(report(rt.alloc(), &task)?)?,
+        Err(fault) => bail!("{}", lines::message(rt.alloc(), words, &fault)?),
+    }
+    Ok(())
 }
 
 fn run(rt: &HostRuntime) -> anyhow::Result<()> {
-    let heap = rt.alloc();
-    let words: Vec<String> = env::args(rt)?.skip(1).collect(heap)?;
-    if asks_usage(words.as_slice()) {
-        rt.println(Usage)?;
-        return Ok(());
-    }
-    if words.len() == 1 {
-        return folder::run(rt, words[0].as_str());
-    }
-    match reading::read(heap, words.as_slice()) {
-        Ok(task) => rt.println(report(heap, &task)?)?,
-        Err(fault) => return Err(anyhow!(lines::message(heap, words.as_slice(), &fault)?)),
+    let words: Vec<String> = env::args(rt)?.skip(1).collect(rt.alloc())?;
+    match words.as_slice() {
+        words if asks_usage(words) => rt.println(Usage)?,
+        [folder] => folder::run(rt, folder.as_str())?,
+        words => share(rt, words)?,
     }
     Ok(())
 }

@@ -10,7 +10,7 @@ use std::alloc::{AllocError, AllocFailed, Global};
 
 // Why the words are no task. A weight that is no number is named by its place, and a bound by the fault of the layer
 // that judges it.
-#[derive(Clone, Copy, Debug, PartialEq)]
+#[derive(Clone, Copy, Debug, PartialEq, Eq)]
 pub(super) enum TaskFault {
     NoAmount,
     AmountNoNumber,
@@ -19,6 +19,7 @@ pub(super) enum TaskFault {
     Memory,
 }
 
+// An error enum that is derived has a `From` without a contract, and clauses read what these give.
 impl From<AllocError> for TaskFault {
     ghost from_gives = { λ _ r. r ≡ Memory };
 
@@ -49,10 +50,8 @@ fn weights(heap: Global, words: &[String]) -> Result<Vec<u32>, TaskFault>
 {
     let mut read = Vec::new(heap);
     for (i, word) in words.iter().enumerate() {
-        match weight(word.as_str()) {
-            Some(w) => read.push(w)?,
-            None => return Err(TaskFault::WeightNoNumber(i)),
-        }
+        let w = weight(word.as_str()).ok_or(TaskFault::WeightNoNumber(i))?;
+        read.push(w)?;
     }
     Ok(read)
 }
@@ -61,13 +60,9 @@ fn weights(heap: Global, words: &[String]) -> Result<Vec<u32>, TaskFault>
 pub(super) fn read(heap: Global, words: &[String]) -> Result<Task, TaskFault>
     ensures { MatchResult result (λ t. Asked (map string_bytes words.now) t.amount t.weights.items) (Refuses (map string_bytes words.now)) }
 {
-    let Some(first) = words.first() else {
-        return Err(TaskFault::NoAmount);
-    };
-    let Some(amount) = amount(first.as_str()) else {
-        return Err(TaskFault::AmountNoNumber);
-    };
-    let weights = weights(heap, &words[1..])?;
+    let (first, others) = words.split_first().ok_or(TaskFault::NoAmount)?;
+    let amount = amount(first.as_str()).ok_or(TaskFault::AmountNoNumber)?;
+    let weights = weights(heap, others)?;
     let total = check_bounds(amount, weights.as_slice())?;
     Ok(Task {
         amount,

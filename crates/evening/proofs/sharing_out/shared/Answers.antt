@@ -1,7 +1,7 @@
 use Rattle.std.proofs.Common.{◌≡◌, ◌++◌, length, take, drop, vec_items, ◌∙◌, subst, arith, w64, SFits, rules}
 use Rattle.std.proofs.lemmas.List.{take_all, take-append-le}
 use Rattle.std.proofs.lemmas.Int.{to_z-of_z}
-use Rattle.sharing.specs.Sharing.{Within, Ready, Shared}
+use Rattle.sharing.specs.Sharing.{Ready, Shared}
 use Rattle.evening.proofs.sharing_out.shared.Goals as goal
 
 pub returns : goal.returns
@@ -14,8 +14,7 @@ returns g c =
     let weights = task.weights.ok.0 in
     let cells : length c.as_mut_slice.result.now ≡ length ws = omega arith in
     let fits : SFits w64 f = search rules in
-    let within : Within f ws = record { size = task.small; some = omega arith; most = omega arith } in
-    let ready : Ready f ws (length c.as_mut_slice.result.now) = record { within = within; cells = cells } in
+    let ready : Ready f ws (length c.as_mut_slice.result.now) = record { within = task.within; cells = cells } in
     let here = simp to_z-of_z at c.share-rest.ensures in
     let shared : Shared (g.R.SharingRule.meaning c.args.rule.now) f ws c.as_mut_slice.result.now c.share-rest.new.shares c.share-rest.result =
     subst (λ xs. Shared (g.R.SharingRule.meaning c.args.rule.now) f xs c.as_mut_slice.result.now c.share-rest.new.shares c.share-rest.result) c.as_slice.ensures.value here in
