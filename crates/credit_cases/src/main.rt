@@ -9,19 +9,34 @@ use contracts::{CheckedTable, ContractRow, check_contracts};
 use credits::{NodeRecord, balanced_quantity, chain_credits, node_price};
 use reading::{Case, read};
 use refusals::Refusal;
+use std::io;
 
-fn print_check(rt: &HostRuntime, rows: &[ContractRow]) -> anyhow::Result<()> {
-    match check_contracts(rows) {
-        Ok(count) => println!(rt; "check: {count} rows")?,
-        Err(fault) => println!(rt; "check: {}", Refusal::from(fault))?,
+// What a call answered, or its refusal.
+fn print_answer<T, F, S>(
+    rt: &HostRuntime,
+    name: &str,
+    answer: Result<T, F>,
+    show: S,
+) -> anyhow::Result<()>
+where
+    T: Drop,
+    F: Into<Refusal> + Drop,
+    S: FnOnce(T) -> io::Result<()> + Drop,
+    requires { S.IsAlwaysCallable show }
+{
+    print!(rt; "{name}: ")?;
+    match answer {
+        Ok(value) => show(value)?,
+        Err(fault) => rt.print(fault.into())?,
     }
+    println!(rt; "")?;
     Ok(())
 }
 
 // The places of the rows along the chain.
 fn print_chain(rt: &HostRuntime, table: &CheckedTable, head: usize) -> anyhow::Result<()> {
     print!(rt; "chain:")?;
-    for (place, _row) in table.chain(head) {
+    for (place, _) in table.chain(head) {
         print!(rt; " {place}")?;
     }
     println!(rt; "")?;
@@ -31,9 +46,9 @@ fn print_chain(rt: &HostRuntime, table: &CheckedTable, head: usize) -> anyhow::R
 // The weighted price of each node that has a record.
 fn print_prices(rt: &HostRuntime, nodes: &[NodeRecord]) -> anyhow::Result<()> {
     print!(rt; "prices:")?;
-    for (node, _record) in nodes.iter().enumerate() {
+    for node in 0..nodes.len() {
         match node_price(nodes, node) {
-            Ok(price) => print!(rt; " {price}")?,
+            Ok(price) => print!(rt; " {}", price.millicents)?,
             Err(fault) => print!(rt; " ({})", Refusal::from(fault))?,
         }
     }
@@ -41,29 +56,23 @@ fn print_prices(rt: &HostRuntime, nodes: &[NodeRecord]) -> anyhow::Result<()> {
     Ok(())
 }
 
-fn print_balanced(rt: &HostRuntime, table: &CheckedTable, case: &Case) -> anyhow::Result<()> {
-    match balanced_quantity(table, case.head, case.schedule) {
-        Ok(b) => println!(rt; "balanced: {}", b.milli_mwh)?,
-        Err(fault) => println!(rt; "balanced: {}", Refusal::from(fault))?,
-    }
-    Ok(())
-}
-
-fn print_credits(rt: &HostRuntime, table: &CheckedTable, case: &Case) -> anyhow::Result<()> {
-    match chain_credits(table, case.head, case.nodes.as_slice(), case.schedule) {
-        Ok(credits) => println!(rt; "credits: {:?}", credits.as_slice())?,
-        Err(fault) => println!(rt; "credits: {}", Refusal::from(fault))?,
-    }
-    Ok(())
-}
-
 fn print_case(rt: &HostRuntime, case: &Case) -> anyhow::Result<()> {
-    let table = CheckedTable::new(case.rows.as_slice());
-    print_check(rt, case.rows.as_slice())?;
+    let rows = case.rows.as_slice();
+    let nodes = case.nodes.as_slice();
+    let table = CheckedTable::new(rows);
+    print_answer(rt, "check", check_contracts(rows), |count| {
+        print!(rt; "{count} rows")
+    })?;
     print_chain(rt, &table, case.head)?;
-    print_prices(rt, case.nodes.as_slice())?;
-    print_balanced(rt, &table, case)?;
-    print_credits(rt, &table, case)
+    print_prices(rt, nodes)?;
+    let balanced = balanced_quantity(&table, case.head, case.schedule);
+    print_answer(rt, "balanced", balanced, |quantity| {
+        rt.print(quantity.milli_mwh)
+    })?;
+    let credits = chain_credits(&table, case.head, nodes, case.schedule);
+    print_answer(rt, "credits", credits, |credits| {
+        print!(rt; "{:?}", credits.as_slice())
+    })
 }
 
 fn run(rt: &HostRuntime) -> anyhow::Result<()> {

@@ -5,7 +5,8 @@ use anyhow::Context;
 use contracts::ContractRow;
 use credits::{NodeRecord, Schedule};
 use std::alloc::Global;
-use std::str::SplitWhitespace;
+use std::num::ParseIntError;
+use std::str::{FromStr, SplitWhitespace};
 
 /// One case of the test: a contract table, the records of the nodes, and the chain that credits are asked for.
 #[derive(Drop)]
@@ -21,21 +22,26 @@ fn word<'a>(words: &mut SplitWhitespace<'a>) -> anyhow::Result<&'a str> {
     Ok(words.next().context("a number is missing")?)
 }
 
+// The next word, a number.
+fn number<T: FromStr<Err = ParseIntError>>(words: &mut SplitWhitespace<'_>) -> anyhow::Result<T> {
+    Ok(word(words)?.parse()?)
+}
+
 // A place in the table; `-` is none.
 fn place(text: &str) -> anyhow::Result<Option<usize>> {
     if text == "-" {
         return Ok(None);
     }
-    Ok(Some(text.parse::<usize>()?))
+    Ok(Some(text.parse()?))
 }
 
 fn row(text: &str) -> anyhow::Result<ContractRow> {
     let mut words = text.split_whitespace();
     Ok(ContractRow {
-        party: word(&mut words)?.parse::<usize>()?,
-        capacity: word(&mut words)?.parse::<u32>()?,
-        receipt: word(&mut words)?.parse::<usize>()?,
-        delivery: word(&mut words)?.parse::<usize>()?,
+        party: number(&mut words)?,
+        capacity: number(&mut words)?,
+        receipt: number(&mut words)?,
+        delivery: number(&mut words)?,
         next: place(word(&mut words)?)?,
     })
 }
@@ -43,47 +49,27 @@ fn row(text: &str) -> anyhow::Result<ContractRow> {
 fn node(text: &str) -> anyhow::Result<NodeRecord> {
     let mut words = text.split_whitespace();
     Ok(NodeRecord {
-        fifteen_minute_deviation: word(&mut words)?.parse::<u32>()?,
-        dispatch_deviation: word(&mut words)?.parse::<u32>()?,
-        fifteen_minute_price: word(&mut words)?.parse::<i64>()?,
-        dispatch_price: word(&mut words)?.parse::<i64>()?,
+        fifteen_minute_deviation: number(&mut words)?,
+        dispatch_deviation: number(&mut words)?,
+        fifteen_minute_price: number(&mut words)?,
+        dispatch_price: number(&mut words)?,
     })
-}
-
-fn rows(heap: Global, text: &str) -> anyhow::Result<Vec<ContractRow>> {
-    let mut rows = Vec::new(heap);
-    for part in text.split_terminator(';') {
-        rows.push(row(part)?)?;
-    }
-    Ok(rows)
-}
-
-fn nodes(heap: Global, text: &str) -> anyhow::Result<Vec<NodeRecord>> {
-    let mut nodes = Vec::new(heap);
-    for part in text.split_terminator(';') {
-        nodes.push(node(part)?)?;
-    }
-    Ok(nodes)
 }
 
 // Reads a case from its line.
 pub(super) fn read(heap: Global, line: &str) -> anyhow::Result<Case> {
     let mut parts = line.split('|');
-    let rows = rows(heap, parts.next().context("no rows")?)?;
-    let nodes = nodes(heap, parts.next().context("no nodes")?)?;
+    let rows = parts.next().context("no rows")?;
+    let nodes = parts.next().context("no nodes")?;
     let mut words = parts.next().context("no question")?.split_whitespace();
-    let head = word(&mut words)?.parse::<usize>()?;
-    let demand = word(&mut words)?.parse::<u32>()?;
-    let supply = word(&mut words)?.parse::<u32>()?;
-    let day_ahead = word(&mut words)?.parse::<u32>()?;
     Ok(Case {
-        rows,
-        nodes,
-        head,
+        rows: rows.split_terminator(';').map(row).try_collect(heap)?,
+        nodes: nodes.split_terminator(';').map(node).try_collect(heap)?,
+        head: number(&mut words)?,
         schedule: Schedule {
-            demand,
-            supply,
-            day_ahead,
+            demand: number(&mut words)?,
+            supply: number(&mut words)?,
+            day_ahead: number(&mut words)?,
         },
     })
 }

@@ -9,8 +9,8 @@ use Rattle.credits.specs.declared.nodes.NodeRecord.{NodeRecord}
 use Rattle.credits.specs.declared.schedule.Schedule.{Schedule}
 use Rattle.credits.specs.declared.credited.ChainCredits.{ChainCredits}
 use Rattle.credits.specs.declared.faults.CreditFault.{CreditFault}
-use Rattle.credits.specs.Chains.{balanced, cents_of, credit_fault, credits, head_fault, total, last_row, outer_legs, chain_fault, InnerLegsCancel, TotalWithin}
-use Rattle.credits.specs.Faults.{AnswersBy, first_fault, row_fault}
+use Rattle.credits.specs.Chains.{balanced, credit_fault, credits, head_fault, total, last_row, outer_legs, chain_fault, InnerLegsCancel, TotalWithin}
+use Rattle.credits.specs.Faults.{Answers, first_fault, row_fault}
 use Rattle.credits.specs.Legs.{node_leg, row_credit}
 use Rattle.credits.proofs.AllLimits.{sound_row, node_leg_le}
 
@@ -45,10 +45,7 @@ inner_legs_cancel rows s nodes b i is h (goes {is = js} c) = legs_cancel rows s 
 -- where two are judged in turn and there is no fault, neither has one
 pub both_sound : {F : Type 0} (a b : Option F) → first_fault a b ≡ None → (a ≡ None) × (b ≡ None)
 both_sound None b e = (refl, e)
-both_sound (Some f) b e = absurd (some_none f e)
-  where
-    some_none : {F : Type 0} (g : F) → Some g ≡ None → ⊥
-    some_none g d = let z : ◌≡◌ {A = ℕ} 0 1 = cc in omega arith
+both_sound (Some f) b e = let none : Some f ≡ None = e in cc
 
 -- the last row of a chain without a fault has none
 last_sound : (rows : List ContractRow) (nodes : List NodeRecord) (i : ℕ) (js : List ℕ) → chain_fault rows nodes (i ∷ js) ≡ None → row_fault nodes (row_at rows (last_row i js)) ≡ None
@@ -65,7 +62,7 @@ total_within rows s nodes b i is small h (goes {is = js} c) sound =
     omega (arith, ints)
 
 -- credits that are answered add up to the outer legs
-pub answer_adds_up : (rows : List ContractRow) (head : ℕ) (nodes : List NodeRecord) (s : Schedule) (is : List ℕ) (r : Result ChainCredits CreditFault) → Sound rows → Chain rows (head_of rows head) is → AnswersBy cents_of (credit_fault rows head nodes s is) (credits rows nodes (balanced rows is s) is) r → IfOk r (λ c. total (cents_of c) ≡ outer_legs rows nodes (balanced rows is s) head is)
+pub answer_adds_up : (rows : List ContractRow) (head : ℕ) (nodes : List NodeRecord) (s : Schedule) (is : List ℕ) (r : Result ChainCredits CreditFault) → Sound rows → Chain rows (head_of rows head) is → Answers (credit_fault rows head nodes s is) (credits rows nodes (balanced rows is s) is) r → IfOk r (λ cents. total cents ≡ outer_legs rows nodes (balanced rows is s) head is)
 answer_adds_up rows head nodes s is (Err f) sound chain answer = tt
 answer_adds_up rows head nodes s is (Ok c) sound chain answer =
     let here = head_row rows head (both_sound (head_fault rows head) _ answer.0).0 in

@@ -1,5 +1,5 @@
 -- The credits along a chain of contract rows.
-use Rattle.std.specs.Prelude.{◌≡◌, ℕ, ◌<◌, ◌≤◌, min, cond, List, [], ◌∷◌, map, length, take, ℤ, pos, ◌+ℤ◌, ◌-ℤ◌, IfOk, Some, None, fold, Option, Result, nat_le, nat_lt, unsigned_abs}
+use Rattle.std.specs.Prelude.{◌≡◌, ℕ, ◌<◌, ◌≤◌, min, cond, List, [], ◌∷◌, map, length, ℤ, pos, ◌+ℤ◌, ◌-ℤ◌, IfOk, Some, None, fold, Option, Result, nat_le, nat_lt, unsigned_abs}
 use Rattle.contracts.specs.declared.rows.ContractRow.{ContractRow}
 use Rattle.contracts.specs.declared.faults.TableFault.TheVariants.{NoHead}
 use Rattle.contracts.specs.Chains.{row_at, head_of, Chain, carried}
@@ -11,7 +11,7 @@ use Rattle.credits.specs.declared.faults.Scheduled.{Scheduled}
 use Rattle.credits.specs.declared.faults.Scheduled.TheVariants.{Demand, Supply, DayAhead}
 use Rattle.credits.specs.declared.faults.CreditFault.{CreditFault}
 use Rattle.credits.specs.declared.faults.CreditFault.TheVariants.{Table, Quantity, Prices}
-use Rattle.credits.specs.Faults.{AnswersBy, first_fault, row_fault}
+use Rattle.credits.specs.Faults.{Answers, first_fault, row_fault}
 use Rattle.credits.specs.Legs.{node_leg, row_credit}
 
 -- the balanced quantity b: the least of demand, supply and the capacities along the chain, less the day-ahead portion
@@ -48,10 +48,6 @@ by_prices (Some fault) = Some (Prices fault)
 abbrev pub credit_fault : List ContractRow → ℕ → List NodeRecord → Schedule → List ℕ → Option CreditFault
 credit_fault rows head nodes s is = first_fault (head_fault rows head) (first_fault (schedule_fault s) (by_prices (chain_fault rows nodes is)))
 
--- the cents that an answer holds
-abbrev pub cents_of : ChainCredits → List ℤ
-cents_of c = take c.count c.cents
-
 -- the sum of credits
 abbrev pub total : List ℤ → ℤ
 total cents = fold ◌+ℤ◌ (pos 0) cents
@@ -70,8 +66,8 @@ outer_legs rows nodes b head is = node_leg nodes b (row_at rows head).receipt -�
 pub record Credited (rows : List ContractRow) (head : ℕ) (nodes : List NodeRecord) (s : Schedule) (r : Result ChainCredits CreditFault) : Type 0 where
   pub members : List ℕ
   pub chain : Chain rows (head_of rows head) members
-  pub gives : AnswersBy cents_of (credit_fault rows head nodes s members) (credits rows nodes (balanced rows members s) members) r
-  pub adds_up : IfOk r (λ c. total (cents_of c) ≡ outer_legs rows nodes (balanced rows members s) head members)
+  pub gives : Answers (credit_fault rows head nodes s members) (credits rows nodes (balanced rows members s) members) r
+  pub adds_up : IfOk r (λ cents. total cents ≡ outer_legs rows nodes (balanced rows members s) head members)
 
 -- Along a chain of the table each delivery leg is the next receipt leg: the credits add up to the first receipt leg less
 -- the last delivery leg.

@@ -1,4 +1,5 @@
 pub mod Chains
+pub mod Credited
 pub mod Faults
 pub mod Figures
 pub mod Legs

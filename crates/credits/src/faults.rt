@@ -68,18 +68,20 @@ impl From<CreditFault> for Refusal {
     }
 }
 
+// The two conversions that `?` makes are written out: the ones that `thiserror` derives have no `from_gives`, which the
+// clauses of the functions that answer a `CreditFault` rest on.
 impl From<TableFault> for CreditFault {
-    ghost from_gives = { λ e r. r ≡ Table e };
+    ghost from_gives = { λ fault credit_fault. credit_fault ≡ Table fault };
 
-    fn from(error: TableFault) -> CreditFault {
-        CreditFault::Table(error)
+    fn from(fault: TableFault) -> CreditFault {
+        CreditFault::Table(fault)
     }
 }
 
 impl From<PriceFault> for CreditFault {
-    ghost from_gives = { λ e r. r ≡ Prices e };
+    ghost from_gives = { λ fault credit_fault. credit_fault ≡ Prices fault };
 
-    fn from(error: PriceFault) -> CreditFault {
-        CreditFault::Prices(error)
+    fn from(fault: PriceFault) -> CreditFault {
+        CreditFault::Prices(fault)
     }
 }

@@ -8,14 +8,13 @@ mod legs;
 mod nodes;
 mod prices;
 mod quantities;
-mod quotients;
 mod schedule;
 
-pub use chains::{MAX_SCHEDULED_MILLI_MWH, balanced_quantity, chain_credits};
+pub use chains::{balanced_quantity, chain_credits};
 pub use credited::ChainCredits;
 pub use faults::{CreditFault, PriceFault, Scheduled};
 pub use legs::row_credit;
 pub use nodes::NodeRecord;
-pub use prices::{MAX_DEVIATION_MILLI_MWH, MAX_PRICE_MILLICENTS, node_price};
+pub use prices::{MAX_DEVIATION_MILLI_MWH, MAX_PRICE_MILLICENTS, Price, node_price};
 pub use quantities::{BalancedQuantity, MAX_QUANTITY_MILLI_MWH};
-pub use schedule::Schedule;
+pub use schedule::{MAX_SCHEDULED_MILLI_MWH, Schedule};

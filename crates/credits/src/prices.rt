@@ -1,19 +1,96 @@
 // The weighted price of a node.
-ghost use Rattle.std.specs.Prelude.{◌≡◌, ◌*◌, ◌<◌, ◌≤◌, true, IfOk, unsigned_abs};
-ghost use Rattle.credits.specs.Prices.{node_at, total_deviation, weighed, weighted_sum, weighted_mean, plain_mean, weighted_price, within_bounds};
-ghost use Rattle.credits.specs.Faults.{node_fault, Answers};
+ghost use Rattle.std.specs.Prelude.{◌≡◌, ◌*◌, ◌≤◌, true, false, ◌+ℤ◌, MatchOption, unsigned_abs};
+ghost use Rattle.credits.specs.Prices.{node_at, total_deviation, weighed, weighted_sum, plain_mean, weighted_price, within_bounds};
+ghost use Rattle.credits.specs.Faults.{node_fault, AnswersBy};
 ghost use Rattle.credits.specs.Limits.{Limits, NearestAmounts};
 ghost use Rattle.credits.specs.Figures.{Figures};
 
 use crate::faults::PriceFault;
 use crate::nodes::NodeRecord;
-use crate::quotients::nearest_whole;
+use rounding::{nearest, nearest_by};
+use std::num::NonZeroU64;
 
 /// The largest deviation of a record, in thousandths of a MWh.
 pub const MAX_DEVIATION_MILLI_MWH: u32 = 1_000_000;
 
 /// The largest price of a record, either way, in hundred-thousandths of a dollar, which are thousandths of a cent.
 pub const MAX_PRICE_MILLICENTS: u64 = 100_000_000;
+
+/// A weighted price, in hundred-thousandths of a dollar, which are thousandths of a cent, from -100,000,000 to 100,000,000.
+#[derive(Clone, Copy, Debug, PartialEq, Eq)]
+pub struct Price {
+    pub millicents: i64,
+    ghost bound: { unsigned_abs millicents ≤ 100000000 },
+}
+
+// A record with no deviation and no price beyond its limit: such a record has a price.
+#[derive(Clone, Copy)]
+struct BoundedRecord {
+    hour: NodeRecord,
+    ghost bounded: { within_bounds hour ≡ true },
+}
+
+impl BoundedRecord {
+    // The record, unless a part of it is beyond its limit.
+    fn new(hour: NodeRecord) -> Option<BoundedRecord>
+        ensures { MatchOption result (within_bounds hour ≡ false) (λ r. r.hour ≡ hour) }
+    {
+        if within_bounds(hour) {
+            Some(BoundedRecord { hour })
+        } else {
+            None
+        }
+    }
+
+    // The sum of the deviations.
+    fn total_deviation(self) -> u64
+        ensures { result ≡ total_deviation self.hour }
+    {
+        u64::from(self.hour.fifteen_minute_deviation) + u64::from(self.hour.dispatch_deviation)
+    }
+
+    // The sum of price × deviation over both markets.
+    fn weighted_sum(self) -> i64
+        ensures { result ≡ weighted_sum self.hour }
+    {
+        let hour = self.hour;
+        weighed(hour.fifteen_minute_price, hour.fifteen_minute_deviation)
+            + weighed(hour.dispatch_price, hour.dispatch_deviation)
+    }
+
+    // The sum of the prices.
+    fn price_sum(self) -> i64
+        ensures { result ≡ self.hour.fifteen_minute_price +ℤ self.hour.dispatch_price }
+    {
+        self.hour.fifteen_minute_price + self.hour.dispatch_price
+    }
+
+    // The plain mean of the prices.
+    fn plain_mean(self) -> i64
+        ensures { result ≡ plain_mean self.hour }
+    {
+        nearest(self.price_sum(), 2).unwrap()
+    }
+
+    // The mean of the prices, each weighted by its deviation; where nothing deviated, their plain mean.
+    fn mean(self) -> i64
+        ensures { result ≡ weighted_price self.hour }
+    {
+        match NonZeroU64::new(self.total_deviation()) {
+            Some(total) => nearest_by(self.weighted_sum(), total),
+            None => self.plain_mean(),
+        }
+    }
+
+    // The price of the record.
+    fn weighted_price(self) -> Price
+        ensures { result.millicents ≡ weighted_price self.hour }
+    {
+        Price {
+            millicents: self.mean(),
+        }
+    }
+}
 
 // Whether no deviation and no price of the record is beyond its limit.
 fn within_bounds(hour: NodeRecord) -> bool
@@ -27,77 +104,32 @@ fn within_bounds(hour: NodeRecord) -> bool
 
 // Price × deviation in one market.
 fn weighed(price: i64, deviation: u32) -> i64
-    requires { (unsigned_abs price ≤ 100000000) × (deviation ≤ 1000000) }
+    requires { unsigned_abs price ≤ 100000000 }
     ensures value { result ≡ weighed price deviation }
     ensures small { unsigned_abs result ≤ 100000000 * deviation }
 {
     price * i64::from(deviation)
 }
 
-// The sum of price × deviation over both markets.
-fn weighted_sum(hour: NodeRecord) -> i64
-    requires { within_bounds hour ≡ true }
-    ensures { result ≡ weighted_sum hour }
+// The record of a node, if it has one within bounds; otherwise the node's fault. The records and the node stay two
+// parameters, as a slice and an index: a struct of both would be made for one look-up.
+fn bounded_record(nodes: &[NodeRecord], node: usize) -> Result<BoundedRecord, PriceFault>
+    ensures { AnswersBy (λ r. r.hour) (node_fault nodes.now node) (node_at nodes.now node) result }
 {
-    weighed(hour.fifteen_minute_price, hour.fifteen_minute_deviation)
-        + weighed(hour.dispatch_price, hour.dispatch_deviation)
-}
-
-// The mean of the prices, each weighted by its deviation.
-fn weighted_mean(hour: NodeRecord, total: u64) -> i64
-    requires { (within_bounds hour ≡ true) × ((total ≡ total_deviation hour) × (0 < total)) }
-    ensures { result ≡ weighted_mean hour }
-{
-    nearest_whole(weighted_sum(hour), total)
-}
-
-// The plain mean of the prices.
-fn plain_mean(hour: NodeRecord) -> i64
-    requires { within_bounds hour ≡ true }
-    ensures { result ≡ plain_mean hour }
-{
-    nearest_whole(hour.fifteen_minute_price + hour.dispatch_price, 2)
-}
-
-// The price of a record within bounds.
-fn weighted_price(hour: NodeRecord) -> i64
-    requires { within_bounds hour ≡ true }
-    ensures value { result ≡ weighted_price hour }
-    ensures small { unsigned_abs result ≤ 100000000 }
-{
-    let total = u64::from(hour.fifteen_minute_deviation) + u64::from(hour.dispatch_deviation);
-    if total < 1 {
-        plain_mean(hour)
-    } else {
-        weighted_mean(hour, total)
-    }
-}
-
-// The record of a node, if it has one within bounds; otherwise the node's fault.
-fn sound_record(nodes: &[NodeRecord], node: usize) -> Result<NodeRecord, PriceFault>
-    ensures { Answers (node_fault nodes.now node) (node_at nodes.now node) result }
-{
-    if node >= nodes.len() {
-        return Err(PriceFault::NoRecord(node));
-    }
-    if !within_bounds(nodes[node]) {
-        return Err(PriceFault::OutOfBounds(node));
-    }
-    Ok(nodes[node])
+    let hour = nodes.get(node).copied().ok_or(PriceFault::NoRecord(node))?;
+    BoundedRecord::new(hour).ok_or(PriceFault::OutOfBounds(node))
 }
 
 // The weighted price of a node; or its fault.
-pub(super) fn price_of(nodes: &[NodeRecord], node: usize) -> Result<i64, PriceFault>
-    ensures answer { Answers (node_fault nodes.now node) (weighted_price (node_at nodes.now node)) result }
-    ensures small { IfOk result (λ price. unsigned_abs price ≤ 100000000) }
+pub(super) fn price_of(nodes: &[NodeRecord], node: usize) -> Result<Price, PriceFault>
+    ensures { AnswersBy (λ p. p.millicents) (node_fault nodes.now node) (weighted_price (node_at nodes.now node)) result }
 {
-    Ok(weighted_price(sound_record(nodes, node)?))
+    Ok(bounded_record(nodes, node)?.weighted_price())
 }
 
-/// The weighted price of a node, in hundred-thousandths of a dollar; or its fault.
-pub fn node_price(nodes: &[NodeRecord], node: usize) -> Result<i64, PriceFault>
-    ensures answer { Answers (node_fault nodes.now node) (weighted_price (node_at nodes.now node)) result }
-    ensures small { IfOk result (λ price. unsigned_abs price ≤ 100000000) }
+/// The weighted price of a node; or its fault.
+pub fn node_price(nodes: &[NodeRecord], node: usize) -> Result<Price, PriceFault>
+    ensures answer { AnswersBy (λ p. p.millicents) (node_fault nodes.now node) (weighted_price (node_at nodes.now node)) result }
     ensures nearest { NearestAmounts }
     ensures limits { Limits }
     ensures figures { Figures }

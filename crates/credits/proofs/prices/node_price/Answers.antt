@@ -6,8 +6,7 @@ use Rattle.credits.proofs.prices.node_price.Goals as goal
 pub returns : goal.returns
 returns c =
     record {
-      answer = c.price_of.ensures.answer;
-      small = c.price_of.ensures.small;
+      answer = c.price_of.ensures;
       nearest = nearest_amounts;
       limits = limits;
       figures = figures;
