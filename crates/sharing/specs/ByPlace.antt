@@ -1,5 +1,5 @@
 -- Shares that are made by place: how many, which, their sum, and the one-cent law of them. Assumes nothing.
-use Rattle.std.specs.Prelude.{◌≡◌, ℕ, zero, suc, ◌+◌, ◌*◌, ◌<◌, ◌≤◌, List, map, length, get_or, ℤ, pos, ◌+ℤ◌, ◌-ℤ◌, ◌*ℤ◌, sum, slice_index, slice_index_or, unsigned_abs}
+use Rattle.std.specs.Prelude.{◌≡◌, ℕ, zero, suc, ◌+◌, ◌*◌, ◌<◌, ◌≤◌, List, map, length, get_or, ℤ, pos, ◌+ℤ◌, ◌-ℤ◌, ◌*ℤ◌, sum, slice_index, unsigned_abs}
 use Rattle.std.proofs.Common.{sym, ap, ◌∙◌, zero-add, add-one, arith}
 use Rattle.std.proofs.Math.IntN.{+ℤ_invr}
 use Rattle.std.specs.List.{range_with_len}
@@ -9,6 +9,7 @@ use Rattle.rounding.specs.Nearest.{signed}
 use Rattle.rounding.proofs.Signs.{signed_zero, signed_self, signed_add, signed_mul, signed_apart}
 use Rattle.sharing.specs.Sharing.{OneCent, added, rest_of, share_at}
 use Rattle.sharing.specs.Places.{by_place, upto}
+use Rattle.sharing.specs.Upto.{upto-suc}
 
 -- a and b are less than w apart
 abbrev pub Near : ℕ → ℕ → ℕ → Type 0
@@ -42,10 +43,9 @@ one_cent f ws s each = record {
   near = λ i h. rw (by_place_at s ws i h) (each i h);
 }
 
--- a loop that writes share after share has written them all at its end; f may stand there as a cast to its bits and back, f'
-pub written : (s : ℤ → List ℕ → ℕ → ℤ) (f' f : ℤ) (ws : List ℕ) (ss : List ℤ) (i : ℕ) → f' ≡ f → length ws ≤ i → length ss ≡ length ws → ((k : ℕ) → k < i → slice_index_or ss k (pos 0) ≡ s f' ws k) → ss ≡ by_place (s f ws) ws
-written s f' f ws ss i same end long each =
-    by_place_is (s f ws) ws ss long (λ k h. each k (omega arith) ∙ ap (λ z. s z ws k) same)
+-- a loop that writes share after share has written them all at its end
+pub written : (s : ℕ → ℤ) (ws : List ℕ) (ss : List ℤ) (i : ℕ) → length ws ≤ i → length ss ≡ length ws → ((k : ℕ) → k < i → share_at ss k ≡ s k) → ss ≡ by_place s ws
+written s ws ss i end long each = by_place_is s ws ss long (λ k h. each k (omega arith))
 
 module _ (f : ℤ) (c : ℕ → ℕ) where
   -- cents with the sign of f add up to their sum with that sign
@@ -53,7 +53,7 @@ module _ (f : ℤ) (c : ℕ → ℕ) where
   added-signed zero = sym (signed_zero f)
   added-signed (suc n) =
       let s : ℕ → ℤ = λ i. signed f (c i) in
-      ap (added_to s) (sym (add-one n)) ∙ added_to_more s n ∙ ap (λ z. z +ℤ s n) (added-signed n) ∙ signed_add f (upto c n) (c n)
+      ap (added_to s) (sym (add-one n)) ∙ added_to_more s n ∙ ap (λ z. z +ℤ s n) (added-signed n) ∙ signed_add f (upto c n) (c n) ∙ ap (signed f) (sym (upto-suc c n))
 
   pub exact : (ws : List ℕ) → upto c (length ws) ≡ unsigned_abs f → added (by_place (λ i. signed f (c i)) ws) ≡ f
   exact ws all = added-signed (length ws) ∙ ap (signed f) all ∙ signed_self f

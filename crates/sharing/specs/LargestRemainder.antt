@@ -1,20 +1,21 @@
 -- The largest-remainder rule: each weight gets its whole cents, and the cents that are then left go one each to the
 -- weights whose divisions leave the largest remainders, lower places first among equals; with the sign of the amount.
-use Rattle.std.specs.Prelude.{◌≡◌, ℕ, ◌+◌, ◌-◌, ◌*◌, ◌/◌, ◌%◌, ◌<◌, Bool, ◌&&◌, ◌||◌, ◌⊎◌, List, length, ℤ, sum, ◌==◌, nat_lt, slice_index, unsigned_abs}
+use Rattle.std.specs.Prelude.{◌≡◌, ℕ, ◌+◌, ◌-◌, ◌*◌, ◌%◌, ◌<◌, Bool, ◌&&◌, ◌||◌, ◌⊎◌, List, length, ℤ, sum, sum_by, count_by, ◌==◌, nat_lt, slice_index, unsigned_abs}
 use Rattle.rounding.specs.Nearest.{signed}
-use Rattle.sharing.specs.Sharing.{share_at, added}
-use Rattle.sharing.specs.Places.{by_place, upto, one_if}
+use Rattle.sharing.specs.Sharing.{portion, share_at, added}
+use Rattle.std.specs.List.{range_with_len}
+use Rattle.sharing.specs.Places.{by_place, one_if}
 
 -- the whole cents of the weight at place i of m cents, and the remainder that its division leaves
 abbrev pub whole : ℕ → List ℕ → ℕ → ℕ
-whole m ws i = m * slice_index ws i / sum ws
+whole m ws i = portion m ws (slice_index ws i)
 
 abbrev pub left : ℕ → List ℕ → ℕ → ℕ
 left m ws i = m * slice_index ws i % sum ws
 
--- the spare cents: those that the whole cents leave of m
+-- the spare cents: those that the whole cents of all weights leave of m
 abbrev pub spare : ℕ → List ℕ → ℕ
-spare m ws = m - upto (whole m ws) (length ws)
+spare m ws = m - sum_by (portion m ws) ws
 
 -- place j comes before place i: its remainder is larger, or equal and its place lower
 abbrev pub ahead : ℕ → List ℕ → ℕ → ℕ → Bool
@@ -22,7 +23,7 @@ ahead m ws j i = nat_lt (left m ws i) (left m ws j) || (left m ws j == left m ws
 
 -- how many places come before place i
 abbrev pub rank : ℕ → List ℕ → ℕ → ℕ
-rank m ws i = upto (λ j. one_if (ahead m ws j i)) (length ws)
+rank m ws i = count_by (λ j. ahead m ws j i) (range_with_len 0 (length ws))
 
 -- the first places by rank, as many as there are spare cents, get one cent more
 abbrev pub gets : ℕ → List ℕ → ℕ → Bool

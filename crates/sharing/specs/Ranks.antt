@@ -4,7 +4,7 @@ use Rattle.std.proofs.Common.{sym, ap, ◌∙◌, ⊎_elim, add-zero, zero-add, 
 use Rattle.std.proofs.lemmas.Bool.{cases_eq, cases_Bool, eq-eqb, ne_eqb, lt-ltb, le-ltb}
 use Rattle.std.proofs.lemmas.Bool.Decides.{nat_tests}
 use Rattle.sharing.specs.Places.{upto, one_if}
-use Rattle.sharing.specs.Upto.{upto_lt, upto_add, upto_same, upto_ones}
+use Rattle.sharing.specs.Upto.{upto-suc, upto_lt, upto_add, upto_same, upto_ones}
 
 -- how many of the places below n the test picks
 abbrev pub count : (ℕ → Bool) → ℕ → ℕ
@@ -15,18 +15,20 @@ count_all p n h = upto_same (λ i. one_if (p i)) (λ i. 1) n (λ i k. ap one_if 
 
 pub count_none : (p : ℕ → Bool) (n : ℕ) → ((i : ℕ) → i < n → p i ≡ false) → count p n ≡ 0
 count_none p zero h = refl
-count_none p (suc n) h = omega (arith, count_none p n (λ i k. h i (omega arith)), ap one_if (h n (omega arith)))
+count_none p (suc n) h =
+    omega (arith, upto-suc (λ i. one_if (p i)) n, count_none p n (λ i k. h i (omega arith)), ap one_if (h n (omega arith)))
 
 module _ (r : ℕ → ℕ) where
   -- a value that r takes once at most
   once : (v n : ℕ) → ((i j : ℕ) → i < n → j < n → r i ≡ r j → i ≡ j) → count (λ i. nat_eq (r i) v) n ≤ 1
   once v zero apart = omega arith
   once v (suc n) apart =
+      let more = upto-suc (λ i. one_if (nat_eq (r i) v)) n in
       ⊎_elim
       (λ (e : r n ≡ v).
       let none = count_none (λ i. nat_eq (r i) v) n (λ i k. ne_eqb (r i) v (λ d. omega (arith, apart i n (omega arith) (omega arith) (d ∙ sym e)))) in
-      omega (arith, ap one_if (eq-eqb (r n) v e)))
-      (λ d. omega (arith, once v n (λ i j k l. apart i j (omega arith) (omega arith)), ap one_if (ne_eqb (r n) v d)))
+      omega (arith, more, ap one_if (eq-eqb (r n) v e)))
+      (λ d. omega (arith, more, once v n (λ i j k l. apart i j (omega arith) (omega arith)), ap one_if (ne_eqb (r n) v d)))
       (cases_eq (r n) v)
 
   module _ (n : ℕ) (apart : (i j : ℕ) → i < n → j < n → r i ≡ r j → i ≡ j) where

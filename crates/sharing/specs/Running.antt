@@ -1,13 +1,13 @@
 -- The running rule: a weight gets what the weights up to it get together, less what the weights before it get together,
 -- each rounded down; with the sign of the amount.
-use Rattle.std.specs.Prelude.{◌≡◌, ℕ, ◌+◌, ◌-◌, ◌*◌, ◌/◌, ◌≤◌, List, length, take, ℤ, sum, unsigned_abs}
+use Rattle.std.specs.Prelude.{◌≡◌, ℕ, ◌+◌, ◌-◌, ◌≤◌, List, length, take, ℤ, sum, unsigned_abs}
 use Rattle.rounding.specs.Nearest.{signed}
-use Rattle.sharing.specs.Sharing.{added}
+use Rattle.sharing.specs.Sharing.{portion, added}
 use Rattle.sharing.specs.Places.{by_place}
 
 -- what the first i weights get together of m cents, rounded down
 abbrev pub reached : ℕ → List ℕ → ℕ → ℕ
-reached m ws i = m * sum (take i ws) / sum ws
+reached m ws i = portion m ws (sum (take i ws))
 
 -- the cents of place i, its share, and the list of all shares
 abbrev pub running_cents : ℕ → List ℕ → ℕ → ℕ

@@ -1,7 +1,7 @@
 -- What every sharing rule owes: the bounds inside which it shares an amount of cents over weights, the one-cent law of
 -- its shares, the rest that they leave, and what one use of it does. A rule's meaning m is its list of shares for an
 -- amount and weights.
-use Rattle.std.specs.Prelude.{◌≡◌, ℕ, ◌<◌, ◌≤◌, List, length, ℤ, pos, ◌+ℤ◌, ◌-ℤ◌, ◌*ℤ◌, fold, sum, slice_index, slice_index_or, unsigned_abs}
+use Rattle.std.specs.Prelude.{◌≡◌, ℕ, ◌*◌, ◌/◌, ◌<◌, ◌≤◌, List, length, ℤ, pos, ◌+ℤ◌, ◌-ℤ◌, ◌*ℤ◌, fold, sum, slice_index, slice_index_or, unsigned_abs}
 
 -- the sum of the shares
 abbrev pub added : List ℤ → ℤ
@@ -21,6 +21,10 @@ pub record Within (f : ℤ) (ws : List ℕ) : Type 0 where
 pub record Ready (f : ℤ) (ws : List ℕ) (n : ℕ) : Type 0 where
   pub within : Within f ws
   pub cells : n ≡ length ws
+
+-- what a part of the total of the weights gets of m cents, rounded down
+abbrev pub portion : ℕ → List ℕ → ℕ → ℕ
+portion m ws part = m * part / sum ws
 
 -- the share at a place
 abbrev pub share_at : List ℤ → ℕ → ℤ

@@ -1,18 +1,20 @@
 // The bounds inside which the rules share.
-ghost use Rattle.std.specs.Prelude.{◌≡◌, ◌^◌, ◌<◌, ◌≤◌, sum, MatchOption, MatchResult};
-ghost use Rattle.sharing.specs.Sharing.{Within, Ready};
+ghost use Rattle.std.specs.Prelude.{◌≡◌, ◌<◌, ◌≤◌, sum, MatchOption, MatchResult};
+ghost use Rattle.std.specs.Int.NonZero.{non_zero_u64_get};
+ghost use Rattle.sharing.specs.Sharing.{Within};
 ghost use Rattle.sharing.specs.Beyond.{Beyond};
 
 use std::fmt;
+use std::num::NonZeroU64;
 
-// The largest amount that is shared, either way, in cents.
+/// The largest amount that is shared, either way, in cents.
 pub const MAX_AMOUNT_CENTS: u64 = 1_000_000_000;
 
-// The largest total of the weights.
+/// The largest total of the weights.
 pub const MAX_TOTAL_WEIGHT: u64 = 4_000_000_000;
 
-// Why no rule shares an amount over weights: the amount is too large either way, no weight is above 0, or the weights
-// are too large together.
+/// Why no rule shares an amount over weights: the amount is too large either way, no weight is above 0, or the weights
+/// are too large together.
 #[derive(Clone, Copy, Debug, PartialEq, Eq)]
 pub enum OutOfBounds {
     Amount,
@@ -40,49 +42,30 @@ impl fmt::Display for OutOfBounds {
     }
 }
 
-// The sum of the weights, unless it passes `most`. It stops there, so that no number of weights overflows it; `most`
-// leaves room for one weight more.
-fn sum_up_to(weights: &[u32], most: u64) -> Option<u64>
-    requires { most < 2 ^ 63 }
-    ensures { MatchOption result (most < sum weights.now) (λ t. (t ≡ sum weights.now) × (t ≤ most)) }
-{
-    let mut total = 0;
-    for w in weights {
-        total += u64::from(*w);
-        if total > most {
-            return None;
-        }
-    }
-    Some(total)
-}
-
-// The total of the weights; `None` where it passes the largest total.
+/// The total of the weights; `None` where it passes the largest total. No number of weights overflows 128 bits.
 pub fn total_weight(weights: &[u32]) -> Option<u64>
     ensures { MatchOption result (4000000000 < sum weights.now) (λ t. (t ≡ sum weights.now) × (t ≤ 4000000000)) }
 {
-    sum_up_to(weights, MAX_TOTAL_WEIGHT)
+    let total: u128 = weights.iter().map(|w| u128::from(*w)).sum();
+    u64::try_from(total)
+        .ok()
+        .filter(|total| *total <= MAX_TOTAL_WEIGHT)
 }
 
-// The total of the weights, if the rules share the amount over them; otherwise the first bound that is broken.
-pub fn check_bounds(amount: i64, weights: &[u32]) -> Result<u64, OutOfBounds>
-    ensures { MatchResult result (λ t. Within amount weights.now × (t ≡ sum weights.now)) (Beyond amount weights.now) }
+// What `check_bounds` answers, with a total whose type says that it is not 0.
+pub(super) fn bounded_total(amount: i64, weights: &[u32]) -> Result<NonZeroU64, OutOfBounds>
+    ensures { MatchResult result (λ t. Within amount weights.now × (non_zero_u64_get t ≡ sum weights.now)) (Beyond amount weights.now) }
 {
     if amount.unsigned_abs() > MAX_AMOUNT_CENTS {
         return Err(OutOfBounds::Amount);
     }
-    match total_weight(weights) {
-        Some(0) => Err(OutOfBounds::NoWeight),
-        Some(total) => Ok(total),
-        None => Err(OutOfBounds::TotalWeight),
-    }
+    let total = total_weight(weights).ok_or(OutOfBounds::TotalWeight)?;
+    NonZeroU64::new(total).ok_or(OutOfBounds::NoWeight)
 }
 
-// The total of the weights, if a rule shares the amount over them into a table of that many cells.
-pub(super) fn ready(amount: i64, weights: &[u32], cells: usize) -> Option<u64>
-    ensures { MatchOption result (Ready amount weights.now cells → ⊥) (λ t. Ready amount weights.now cells × (t ≡ sum weights.now)) }
+/// The total of the weights, if the rules share the amount over them; otherwise the first bound that is broken.
+pub fn check_bounds(amount: i64, weights: &[u32]) -> Result<u64, OutOfBounds>
+    ensures { MatchResult result (λ t. Within amount weights.now × (t ≡ sum weights.now)) (Beyond amount weights.now) }
 {
-    if cells != weights.len() {
-        return None;
-    }
-    check_bounds(amount, weights).ok()
+    bounded_total(amount, weights).map(NonZeroU64::get)
 }

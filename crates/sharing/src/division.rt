@@ -1,49 +1,102 @@
-// An amount that is divided over weights, by its size alone: the rules put the sign back onto each share.
-ghost use Rattle.std.specs.Prelude.{◌≡◌, ◌*◌, ◌/◌, ◌%◌, ◌^◌, ◌<◌, ◌≤◌, length, sum};
+// An amount that is divided over weights.
+ghost use Rattle.std.specs.Prelude.{◌≡◌, ◌*◌, ◌/◌, ◌%◌, ◌^◌, ◌<◌, ◌≤◌, length, sum, slice_index, unsigned_abs, IsSome, IfSome, ◌↔◌};
+ghost use Rattle.std.specs.Int.NonZero.{non_zero_u64_get};
+ghost use Rattle.rounding.specs.Nearest.{signed};
+ghost use Rattle.sharing.specs.Sharing.{Within, Ready, portion};
+ghost use Rattle.sharing.specs.Rate.{rate_at};
 ghost use Rattle.sharing.specs.LargestRemainder.{whole, left, spare, ahead, rank, largest_cents};
 
-#[derive(Clone, Copy)]
+use crate::bounds::bounded_total;
+use rounding::{nearest_by, with_sign};
+use std::num::NonZeroU64;
+
+// An amount and the weights that it is divided over, inside the bounds of the rules, with the total of the weights. What
+// is divided is the size of the amount; `signed` puts the sign back. A weight is named by its place, and so a loop that
+// writes the shares counts places: after a `zip` with `shares.iter_mut()` a proof knows nothing of the shares.
+#[derive(Clone, Copy, Debug)]
 pub(super) struct Division<'a> {
-    pub(super) size: u64,
+    pub(super) amount: i64,
     pub(super) weights: &'a [u32],
-    pub(super) total: u64,
-    ghost small: { size ≤ 1000000000 },
-    ghost some: { 0 < total },
-    ghost all: { total ≡ sum weights.now },
+    total: NonZeroU64,
+    ghost within: { Within amount weights.now },
+    ghost all: { non_zero_u64_get total ≡ sum weights.now },
 }
 
 impl<'a> Division<'a> {
+    // The division, if a rule shares the amount over the weights into a table of that many cells.
+    pub(super) fn of(amount: i64, weights: &'a [u32], cells: usize) -> Option<Division<'a>>
+        ensures ready { IsSome result ↔ Ready amount weights.now cells }
+        ensures amount { IfSome result (λ d. d.amount ≡ amount) }
+        ensures weights { IfSome result (λ d. d.weights.now ≡ weights.now) }
+    {
+        if cells != weights.len() {
+            return None;
+        }
+        let total = bounded_total(amount, weights).ok()?;
+        Some(Division {
+            amount,
+            weights,
+            total,
+        })
+    }
+
+    // The size of the amount.
+    fn size(&self) -> u64
+        ensures { result ≡ unsigned_abs self.now.amount }
+    {
+        self.amount.unsigned_abs()
+    }
+
+    // That many cents with the sign of the amount.
+    pub(super) fn signed(&self, cents: u64) -> i64
+        requires { cents ≤ unsigned_abs self.now.amount }
+        ensures { result ≡ signed self.now.amount cents }
+    {
+        with_sign(self.amount, cents).unwrap()
+    }
+
     // What `part` of the total gets, rounded down. A part of 32 bits times the size fits 64 bits.
     pub(super) fn portion(&self, part: u64) -> u64
         requires { part < 2 ^ 32 }
-        ensures { result ≡ self.now.size * part / self.now.total }
+        ensures { result ≡ portion (unsigned_abs self.now.amount) self.now.weights.now part }
     {
-        self.size * part / self.total
+        self.size() * part / self.total
+    }
+
+    // The nearest of amount × weight ÷ total for the weight at place `i`.
+    pub(super) fn nearest_share(&self, i: usize) -> i64
+        requires { i < length self.now.weights.now }
+        ensures value { result ≡ rate_at self.now.amount self.now.weights.now i }
+        ensures small { unsigned_abs result ≤ 1000000000 * slice_index self.now.weights.now i }
+    {
+        nearest_by(self.amount * i64::from(self.weights[i]), self.total)
     }
 
     // What the division at place `i` leaves.
     fn remainder(&self, i: usize) -> u64
         requires { i < length self.now.weights.now }
-        ensures { result ≡ left self.now.size self.now.weights.now i }
+        ensures { result ≡ left (unsigned_abs self.now.amount) self.now.weights.now i }
     {
-        self.size * u64::from(self.weights[i]) % self.total
+        self.size() * u64::from(self.weights[i]) % self.total
     }
 
     // The cents that are left when each weight has its whole cents.
     pub(super) fn spare(&self) -> u64
-        ensures { result ≡ spare self.now.size self.now.weights.now }
+        ensures { result ≡ spare (unsigned_abs self.now.amount) self.now.weights.now }
     {
-        let mut left = self.size;
-        for w in self.weights {
-            left -= self.portion(u64::from(*w));
-        }
-        left
+        let whole: u64 = self
+            .weights
+            .iter()
+            .map(|w| self.portion(u64::from(*w)))
+            .sum();
+        self.size() - whole
     }
 
     // Whether place `j` comes before place `i` for a spare cent.
     fn comes_before(&self, j: usize, i: usize) -> bool
-        requires { (j < length self.now.weights.now) × (i < length self.now.weights.now) }
-        ensures { result ≡ ahead self.now.size self.now.weights.now j i }
+        requires other { j < length self.now.weights.now }
+        requires own { i < length self.now.weights.now }
+        ensures { result ≡ ahead (unsigned_abs self.now.amount) self.now.weights.now j i }
     {
         let other = self.remainder(j);
         let own = self.remainder(i);
@@ -53,19 +106,18 @@ impl<'a> Division<'a> {
     // How many places come before place `i` for a spare cent.
     fn rank(&self, i: usize) -> u64
         requires { i < length self.now.weights.now }
-        ensures { result ≡ rank self.now.size self.now.weights.now i }
+        ensures { result ≡ rank (unsigned_abs self.now.amount) self.now.weights.now i }
     {
-        let mut count = 0;
-        for j in 0..self.weights.len() {
-            count += u64::from(self.comes_before(j, i));
-        }
-        count
+        (0..self.weights.len())
+            .filter(|j| self.comes_before(*j, i))
+            .count() as u64
     }
 
     // The cents of place `i`: its whole cents, and one of the `k` spare cents if fewer than `k` places come before it.
     pub(super) fn cents(&self, i: usize, k: u64) -> u64
-        requires { (i < length self.now.weights.now) × (k ≡ spare self.now.size self.now.weights.now) }
-        ensures { result ≡ largest_cents self.now.size self.now.weights.now i }
+        requires place { i < length self.now.weights.now }
+        requires spare { k ≡ spare (unsigned_abs self.now.amount) self.now.weights.now }
+        ensures { result ≡ largest_cents (unsigned_abs self.now.amount) self.now.weights.now i }
     {
         self.portion(u64::from(self.weights[i])) + u64::from(self.rank(i) < k)
     }

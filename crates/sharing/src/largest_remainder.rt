@@ -1,33 +1,26 @@
 // The largest-remainder rule.
-ghost use Rattle.std.specs.Prelude.{◌≡◌, length, pos, sum};
+ghost use Rattle.std.specs.Prelude.{◌≡◌, length, pos};
 ghost use Rattle.sharing.specs.Sharing.{Ready, Unique, Shared, rest_of};
 ghost use Rattle.sharing.specs.LargestRemainder.{largest, LargestFirst};
 ghost use Rattle.sharing.specs.LargestLaw.{largest_cent, largest_exact};
 
-use crate::bounds::ready;
 use crate::division::Division;
 use crate::rule::{ExactRule, SharingRule};
-use rounding::with_sign;
 
-// A weight gets its whole cents, and the largest remainders one of the spare cents each, lower places first among equals.
-#[derive(Clone, Copy)]
+/// A weight gets its whole cents, and the largest remainders one of the spare cents each, lower places first among equals.
+#[derive(Clone, Copy, Debug, PartialEq, Eq)]
 pub struct LargestRemainderRule;
 
 // Writes the shares, which leave no rest.
-fn share_by_remainder(amount: i64, weights: &[u32], total: u64, shares: &mut [i64])
-    requires { (Ready amount weights.now (length shares.old)) × (total ≡ sum weights.now) }
-    ensures shares { shares.new ≡ largest amount weights.now }
-    ensures rest { rest_of amount (largest amount weights.now) ≡ pos 0 }
-    ensures law { Unique (LargestFirst amount weights.now) shares.new }
+fn share_by_remainder(division: &Division, shares: &mut [i64])
+    requires { length shares.old ≡ length division.now.weights.now }
+    ensures shares { shares.new ≡ largest division.now.amount division.now.weights.now }
+    ensures rest { rest_of division.now.amount (largest division.now.amount division.now.weights.now) ≡ pos 0 }
+    ensures law { Unique (LargestFirst division.now.amount division.now.weights.now) shares.new }
 {
-    let division = Division {
-        size: amount.unsigned_abs(),
-        weights,
-        total,
-    };
     let spare = division.spare();
-    for i in 0..weights.len() {
-        shares[i] = with_sign(amount, division.cents(i, spare)).unwrap();
+    for (i, share) in shares.iter_mut().enumerate() {
+        *share = division.signed(division.cents(i, spare));
     }
 }
 
@@ -40,13 +33,11 @@ impl SharingRule for LargestRemainderRule {
         ensures rule { Shared largest amount weights.now shares.old shares.new result }
         ensures law { Ready amount weights.now (length shares.old) → Unique (LargestFirst amount weights.now) shares.new }
     {
-        match ready(amount, weights, shares.len()) {
-            Some(total) => {
-                share_by_remainder(amount, weights, total, shares);
-                0
-            }
-            None => amount,
-        }
+        let Some(division) = Division::of(amount, weights, shares.len()) else {
+            return amount;
+        };
+        share_by_remainder(&division, shares);
+        0
     }
 }
 

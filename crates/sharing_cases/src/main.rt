@@ -8,76 +8,73 @@ use sharing::{ExactRule, LargestRemainderRule, RateRule, RunningRule, SharingRul
 use std::alloc::Global;
 
 // One case of the test.
-#[derive(Drop)]
+#[derive(Debug, Drop)]
 struct Case {
     cells: usize,
     amount: i64,
     weights: Vec<u32>,
 }
 
-fn read(heap: Global, line: &str) -> anyhow::Result<Case> {
-    let mut words = line.split_whitespace();
-    let cells = words
-        .next()
-        .context("no number of cells")?
-        .parse::<usize>()?;
-    let amount = words.next().context("no amount")?.parse::<i64>()?;
-    let mut weights = Vec::new(heap);
-    for word in words {
-        weights.push(word.parse::<u32>()?)?;
-    }
-    Ok(Case {
-        cells,
-        amount,
-        weights,
-    })
-}
-
 // What stands in every cell of a share table before a use.
 const BEFORE: i64 = 777;
 
-fn print_use(rt: &HostRuntime, name: &str, table: &Vec<i64>, answer: i64) -> anyhow::Result<()> {
-    println!(rt; "{name}: {table:?} rest {answer}")?;
-    Ok(())
+impl Case {
+    fn read(heap: Global, line: &str) -> anyhow::Result<Case> {
+        let mut words = line.split_whitespace();
+        let cells = words
+            .next()
+            .context("no number of cells")?
+            .parse::<usize>()?;
+        let amount = words.next().context("no amount")?.parse::<i64>()?;
+        let weights = words
+            .map(|word| word.parse::<u32>().map_err(anyhow::Error::from))
+            .try_collect(heap)?;
+        Ok(Case {
+            cells,
+            amount,
+            weights,
+        })
+    }
+
+    // Shares the case into a table, and prints what `share` answered and left there.
+    fn print_use<F: FnOnce(i64, &[u32], &mut [i64]) -> i64>(
+        &self,
+        rt: &(impl Alloc + Print),
+        name: &str,
+        share: F,
+    ) -> anyhow::Result<()>
+        requires { F.IsAlwaysCallable share }
+    {
+        let mut table = vec![in rt.alloc(); BEFORE; self.cells]?;
+        let answer = share(self.amount, self.weights.as_slice(), table.as_mut_slice());
+        println!(rt; "{name}: {table:?} rest {answer}")?;
+        Ok(())
+    }
+
+    fn print_uses(&self, rt: &(impl Alloc + Print)) -> anyhow::Result<()> {
+        let amount = self.amount;
+        println!(rt; "{amount} into {} over {:?}", self.cells, self.weights)?;
+        self.print_use(rt, "rate", |amount, weights, table| {
+            RateRule.share(amount, weights, table)
+        })?;
+        self.print_use(rt, "largest-remainder", |amount, weights, table| {
+            LargestRemainderRule.share(amount, weights, table)
+        })?;
+        self.print_use(rt, "largest-remainder exactly", |amount, weights, table| {
+            LargestRemainderRule.share_exactly(amount, weights, table)
+        })?;
+        self.print_use(rt, "running", |amount, weights, table| {
+            RunningRule.share(amount, weights, table)
+        })?;
+        self.print_use(rt, "running exactly", |amount, weights, table| {
+            RunningRule.share_exactly(amount, weights, table)
+        })
+    }
 }
 
-fn share<R: SharingRule>(
-    rt: &HostRuntime,
-    name: &str,
-    rule: &R,
-    case: &Case,
-) -> anyhow::Result<()> {
-    let mut table = vec![in rt.alloc(); BEFORE; case.cells]?;
-    let answer = rule.share(case.amount, case.weights.as_slice(), table.as_mut_slice());
-    print_use(rt, name, &table, answer)
-}
-
-fn share_exactly<R: ExactRule>(
-    rt: &HostRuntime,
-    name: &str,
-    rule: &R,
-    case: &Case,
-) -> anyhow::Result<()> {
-    let mut table = vec![in rt.alloc(); BEFORE; case.cells]?;
-    let answer = rule.share_exactly(case.amount, case.weights.as_slice(), table.as_mut_slice());
-    print_use(rt, name, &table, answer)
-}
-
-fn run(rt: &HostRuntime) -> anyhow::Result<()> {
+fn run(rt: &(impl Alloc<A = Global> + Input + Print)) -> anyhow::Result<()> {
     for line in rt.lines(rt.alloc()) {
-        let case = read(rt.alloc(), line?.as_str())?;
-        let amount = case.amount;
-        println!(rt; "{amount} into {} over {:?}", case.cells, case.weights)?;
-        share(rt, "rate", &RateRule, &case)?;
-        share(rt, "largest-remainder", &LargestRemainderRule, &case)?;
-        share_exactly(
-            rt,
-            "largest-remainder exactly",
-            &LargestRemainderRule,
-            &case,
-        )?;
-        share(rt, "running", &RunningRule, &case)?;
-        share_exactly(rt, "running exactly", &RunningRule, &case)?;
+        Case::read(rt.alloc(), line?.as_str())?.print_uses(rt)?;
     }
     Ok(())
 }

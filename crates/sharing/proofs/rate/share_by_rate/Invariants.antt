@@ -6,7 +6,9 @@ use Rattle.sharing.proofs.rate.share_by_rate.Given as goal
 -- the shares so far are written, rest is what they leave, and they are few enough that it fits
 abbrev pub invariant-loop-i : goal.invariant-loop-i
 invariant-loop-i l =
-    let s = rate_at l.amount l.weights in
-    ((k : ℕ) → k < l.i → get_or l.shares k (pos 0) ≡ s k)
-    × (l.rest ≡ l.amount -ℤ added_to s l.i)
-    × (nat_abs (added_to s l.i) ≤ 1000000000 * sum (take l.i l.weights))
+    let s = rate_at l.division.amount l.division.weights.now in
+    record {
+      written : (k : ℕ) → k < l.i → get_or l.shares k (pos 0) ≡ s k;
+      left : l.rest ≡ l.division.amount -ℤ added_to s l.i;
+      few : nat_abs (added_to s l.i) ≤ 1000000000 * sum (take l.i l.division.weights.now);
+    }

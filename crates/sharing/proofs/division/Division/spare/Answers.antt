@@ -1,23 +1,16 @@
-use Rattle.std.proofs.Common.{◌≡◌, ◌+◌, ◌≤◌, length, arith}
-use Rattle.sharing.specs.LargestRemainder.{whole}
-use Rattle.sharing.specs.Upto.{upto_more, upto_up}
+use Rattle.std.proofs.Common.{rules, unsigned_abs}
+use Rattle.std.proofs.iter.runs.Made.{chains}
 use Rattle.sharing.specs.LargestLaw.{wholes_le}
 use Rattle.sharing.proofs.division.Division.spare.Goals as goal
 
--- the whole cents of one weight more are still there
-enough : (c : goal.After-portion-left) → (c.portion-left.result ≡ whole c.args.self.now.size c.args.self.now.weights.now c.loop-w.w-index) × (c.portion-left.result ≤ c.loop-w.left)
-enough c =
+pub sum-whole-requires-clause-fits : goal.sum-whole-requires-clause-fits
+sum-whole-requires-clause-fits c =
     let d = c.args.self.now in
-    let cents = whole d.size d.weights.now in
-    let i = c.loop-w.w-index in
-    let same = d.all in
-    let here : c.portion-left.result ≡ cents i = cc in
-    (here, omega (arith, upto_more cents i, upto_up cents (i + 1) (length d.weights.now) (omega arith), wholes_le d.size d.weights.now (omega (arith, d.some, d.all))))
+    let le = wholes_le (unsigned_abs d.amount) d.weights.now d.within.some in
+    search (rules, chains, le)
 
-pub overflow_sub-left : goal.overflow_sub-left
-overflow_sub-left c = (enough c).1
-
-pub loop-w-preserved : goal.loop-w-preserved
-loop-w-preserved c =
+pub overflow_sub-result : goal.overflow_sub-result
+overflow_sub-result c =
     let d = c.args.self.now in
-    omega (arith, enough c, upto_more (whole d.size d.weights.now) c.loop-w.w-index)
+    let le = wholes_le (unsigned_abs d.amount) d.weights.now d.within.some in
+    search (rules, chains, le)
