@@ -1,8 +1,10 @@
 -- The largest-remainder rule is exact, and keeps the one-cent law and its own. Assumes nothing.
-use Rattle.std.specs.Prelude.{◌≡◌, ℕ, ◌+◌, ◌*◌, ◌<◌, ◌≤◌, true, false, ◌&&◌, ◌⊎◌, List, length, ℤ, pos, sum, sum_by, ◌==◌, ◌≢◌, nat_lt, slice_index, unsigned_abs}
-use Rattle.std.proofs.Common.{sym, ap, ◌∙◌, inl, inr, ⊎_elim, arith}
+use Rattle.std.specs.Prelude.{◌≡◌, ℕ, ◌+◌, ◌*◌, ◌<◌, ◌≤◌, zero, suc, true, false, ◌&&◌, ◌⊎◌, List, length, take, ℤ, pos, sum, sum_by, ◌==◌, ◌≢◌, nat_lt, slice_index, unsigned_abs}
+use Rattle.std.proofs.Common.{sym, ap, ◌∙◌, add-one, mul-zero, inl, inr, ⊎_elim, arith}
 use Rattle.std.proofs.Math.Nat.{le_of_mul-le-mul_right}
 use Rattle.std.proofs.lemmas.Nat.{div-add-mod', mod_below}
+use Rattle.std.proofs.lemmas.List.{take_all}
+use Rattle.std.proofs.lemmas.List.Sums.{sum_by_more}
 use Rattle.std.proofs.lemmas.Bool.{and_parts, both_ways, cases_Bool, cases_eq, eqb-true, ltb-false, ltb-true, or_cases}
 use Rattle.std.proofs.lemmas.Bool.Decides.{nat_tests}
 use Rattle.rounding.specs.Nearest.{signed}
@@ -11,7 +13,7 @@ use Rattle.sharing.specs.Sharing.{Within, OneCent, Unique, portion, rest_of, sha
 use Rattle.sharing.specs.Places.{upto, one_if}
 use Rattle.sharing.specs.LargestRemainder.{whole, left, spare, ahead, rank, gets, largest_cents, largest_at, largest, LargestFirst}
 use Rattle.sharing.specs.ByPlace.{Near, by_place_at, exact, length-by_place, no_rest, signed_cent}
-use Rattle.sharing.specs.Upto.{upto_le, upto_add, upto-mul, upto_same, upto_ones, upto-list}
+use Rattle.sharing.specs.Upto.{upto-suc, upto_le, upto_add, upto-mul, upto_same, upto_ones, upto-list}
 use Rattle.sharing.specs.LargestOnly.{largest_only}
 use Rattle.sharing.specs.Ranks.{rank_up, ranks_below}
 
@@ -33,14 +35,25 @@ module _ (m : ℕ) (ws : List ℕ) where
       (λ both. let parts = and_parts (left m ws i == left m ws j) (nat_lt i j) both in inr (eqb-true (left m ws i) (left m ws j) parts.0, ltb-true i j parts.1))
       (or_cases (nat_lt (left m ws j) (left m ws i)) (left m ws i == left m ws j && nat_lt i j) h)
 
+  weighed : (i : ℕ) → i ≤ length ws → upto (λ j. m * slice_index ws j) i ≡ m * sum (take i ws)
+  weighed zero h = sym (mul-zero m)
+  weighed (suc i) h =
+      omega (
+        arith,
+        upto-suc (λ j. m * slice_index ws j) i,
+        weighed i (omega arith),
+        ap (λ k. m * sum (take k ws)) (add-one i),
+        ap (λ x. m * x) (sum_by_more (λ x. x) ws i 0 (omega arith)),
+      )
+
 module _ (m : ℕ) (ws : List ℕ) (some : 0 < sum ws) where
   -- all cents are in the whole cents and what the divisions leave
   split : m * sum ws ≡ upto (whole m ws) (length ws) * sum ws + upto (left m ws) (length ws)
   split =
       let n = length ws in
       let w = sum ws in
-      let all : upto (λ j. slice_index ws j * m) n ≡ w * m = upto-mul (λ j. slice_index ws j) m n ∙ ap (λ x. x * m) (upto-list (λ v. v) ws) in
-      let each = upto_same (λ j. slice_index ws j * m) (λ j. whole m ws j * w + left m ws j) n (λ j h. omega (arith, div-add-mod' (m * slice_index ws j) w)) in
+      let all : upto (λ j. m * slice_index ws j) n ≡ m * w = weighed m ws n (omega arith) ∙ ap (λ xs. m * sum xs) (take_all n ws (omega arith)) in
+      let each = upto_same (λ j. m * slice_index ws j) (λ j. whole m ws j * w + left m ws j) n (λ j h. sym (div-add-mod' (m * slice_index ws j) w)) in
       omega (arith, upto_add (λ j. whole m ws j * w) (left m ws) n, upto-mul (whole m ws) w n)
 
   -- the whole cents of all weights, by weight and by place

@@ -1,12 +1,16 @@
 -- Sums and counts over the places below n. Assumes nothing.
-use Rattle.std.specs.Prelude.{◌≡◌, ℕ, zero, suc, ◌+◌, ◌-◌, ◌*◌, ◌<◌, ◌≤◌, refl, List, length, take, sum_by, slice_index}
+use Rattle.std.specs.Prelude.{◌≡◌, ℕ, zero, suc, ◌+◌, ◌-◌, ◌*◌, ◌<◌, ◌≤◌, Bool, true, false, refl, List, length, take, sum_by, slice_index}
 use Rattle.std.specs.List.{range_with_len}
 use Rattle.std.proofs.Common.{sym, ap, ◌∙◌, ⊎_elim, zero-mul, add-one, zero-add, arith}
 use Rattle.std.proofs.lemmas.Bool.{cases_eq}
 use Rattle.std.proofs.lemmas.List.{take_all}
 use Rattle.std.proofs.lemmas.List.FromFn.{get_or-range_with_len, length-range_with_len, sum_by-map-range_with_len_more}
 use Rattle.std.proofs.lemmas.List.Sums.{get_or-le-sum_by, sum-map, sum_by_more}
-use Rattle.sharing.specs.Places.{upto}
+use Rattle.sharing.specs.Places.{upto, one_if}
+
+pub one_if_le : (b : Bool) → one_if b ≤ 1
+one_if_le true = omega arith
+one_if_le false = omega arith
 
 pub upto_more : (c : ℕ → ℕ) (i : ℕ) → upto c (i + 1) ≡ upto c i + c i
 upto_more c i =
@@ -78,3 +82,8 @@ upto-take f xs (suc n) h =
 
 pub upto-list : (f : ℕ → ℕ) (xs : List ℕ) → upto (λ i. f (slice_index xs i)) (length xs) ≡ sum_by f xs
 upto-list f xs = upto-take f xs (length xs) (omega arith) ∙ ap (sum_by f) (take_all (length xs) xs (omega arith))
+
+pub upto_up : (c : ℕ → ℕ) (i n : ℕ) → i ≤ n → upto c i ≤ upto c n
+upto_up c i zero h = let e : i ≡ 0 = omega arith in rw e (omega arith)
+upto_up c i (suc n) h =
+    ⊎_elim (λ e. rw e (omega arith)) (λ d. omega (arith, upto-suc c n, upto_up c i n (omega arith))) (cases_eq i (suc n))
