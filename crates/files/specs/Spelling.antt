@@ -1,39 +1,16 @@
 -- What plain digits write, in words of `decimal` and `signed_decimal`. Assumes nothing.
-use Rattle.std.specs.Prelude.{◌≡◌, ℕ, zero, suc, ◌+◌, ◌-◌, ◌*◌, ◌^◌, ◌<◌, ◌≤◌, List, [], ◌∷◌, map, length, take, drop, ℤ, pos, negsuc, neg_ℤ, Some, None, Ok, decimal, Option, Result, MatchOption, ◌≢◌, slice_index, refl}
+use Rattle.std.specs.Prelude.{◌≡◌, ℕ, zero, suc, ◌^◌, ◌<◌, List, [], ◌∷◌, length, drop, ℤ, pos, negsuc, neg_ℤ, Some, None, Ok, decimal, Option, Result, MatchOption, ◌≢◌, slice_index, refl}
 use Rattle.std.proofs.Common.{sym, ap, subst, ◌∙◌, arith}
 use Rattle.std.specs.Int.Signed.{mag}
 use Rattle.std.specs.Str.Parse.{AllDigits, digits_value, ParsesUnsigned}
 use Rattle.std.specs.Int.{IsInRange}
-use Rattle.std.specs.Char.{digit_value}
 use Rattle.std.specs.Fmt.{signed_decimal}
-use Rattle.std.specs.Int.Digits.{number_from_digits, number_from_digits_after}
 use Rattle.std.proofs.lemmas.Fmt.{decimal_digit, decimal_nonempty, decimal-digits_value, digits_decimal, first_decimal, decimal_injective, signed_decimal_injective, digits_value-decimal}
-use Rattle.std.proofs.lemmas.Int.Digits.{digits_more, number_after_append, number_after_ge, digits_value_is, digits_value_more}
-use Rattle.std.proofs.lemmas.List.{map-append, take-append-drop}
 use Rattle.std.proofs.lemmas.Str.Parse.{IsNumeralModel, digit_at, parse_gives, not_in_digits, numerals_by_value, tells_digits}
-use Rattle.std.proofs.lemmas.Str.{digit_value_digit}
 use Rattle.files.specs.Fields.{Small, SmallPrice, SmallNext, next_text, Unpadded, Valued, IsText, NoText, Lacks}
 
 plain : IsNumeralModel (AllDigits 10) (digits_value 10)
 plain = numerals_by_value (AllDigits 10) tells_digits
-
--- the digits so far have no larger value than all of them
-pub value_take : (ds : List ℕ) (i : ℕ) → digits_value 10 (take i ds) ≤ digits_value 10 ds
-value_take ds i =
-    let front = map digit_value (take i ds) in
-    let back = map digit_value (drop i ds) in
-    let whole : digits_value 10 ds ≡ number_from_digits_after 10 (number_from_digits 10 front) back =
-    digits_value_is 10 ds ∙ ap (λ xs. number_from_digits 10 (map digit_value xs)) (sym (take-append-drop i ds))
-    ∙ ap (number_from_digits 10) (map-append digit_value (take i ds) (drop i ds)) ∙ number_after_append 10 0 front back in
-    omega (arith, whole, digits_value_is 10 (take i ds), number_after_ge 10 (number_from_digits 10 front) back (omega arith))
-
--- one digit more
-module _ (ds : List ℕ) (i : ℕ) (within : i < length ds) (digit : IsInRange 48 57 (slice_index ds i)) where
-  pub digits_step : AllDigits 10 (take i ds) → AllDigits 10 (take (i + 1) ds)
-  digits_step so_far = digits_more 10 ds i within so_far (omega (arith, digit_value_digit (slice_index ds i) digit))
-
-  pub value_step : (v : ℕ) → v ≡ digits_value 10 (take i ds) → v * 10 + (slice_index ds i - 48) ≡ digits_value 10 (take (i + 1) ds)
-  value_step v so_far = omega (arith, digits_value_more 10 ds i within, digit_value_digit (slice_index ds i) digit)
 
 some_from_digit : (field : List ℕ) → IsInRange 48 57 (slice_index field 0) → 0 < length field
 some_from_digit [] digit = absurd (omega (arith, digit))

@@ -42,11 +42,7 @@ fn number(field: &[u8]) -> Option<u32>
 fn below_zero(size: u32) -> Option<i64>
     ensures { MatchOption result (size ≡ 0) (λ z. (0 < size) × (z ≡ neg_ℤ (pos size))) }
 {
-    if size == 0 {
-        None
-    } else {
-        Some(-i64::from(size))
-    }
+    (size != 0).then(|| -i64::from(size))
 }
 
 // The price that a minus and these digits write.
