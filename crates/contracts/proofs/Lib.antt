@@ -2,7 +2,7 @@ mod Answer
 mod Carrying
 pub mod Folding
 mod Marking
-pub mod Pigeons
 pub mod Sounds
 pub mod Walks
 pub mod Worked
+mod Yielding

@@ -1,8 +1,10 @@
 -- The check that chains end, walk by walk: what the numbers of the walks tell. Assumes nothing.
-use Rattle.std.proofs.Common.{◌≡◌, ℕ, zero, suc, ◌+◌, ◌<◌, ◌≤◌, true, false, cond, not, eqb, List, ◌∷◌, length, get_or, set, replicate, Some, Decides, count_by, Option, sym, refl, ap, subst, ⊎_elim, arith}
+use Rattle.std.proofs.Common.{◌≡◌, ℕ, zero, suc, ◌+◌, ◌<◌, ◌⊎◌, true, false, cond, not, eqb, List, ◌∷◌, length, get_or, set, replicate, Some, None, count_by, Option, inl, inr, sym, refl, ap, subst, ⊎_elim, arith}
+use Rattle.std.specs.Prelude.{IsTrue, ◌↔◌}
+use Rattle.std.specs.Option.{is_none}
 use Rattle.std.proofs.lemmas.List.{get_or-set_same, get_or-set_other}
 use Rattle.std.proofs.lemmas.List.Sums.{sum_by-set}
-use Rattle.std.proofs.lemmas.Bool.{cases_eq, cases_lt, false≢true}
+use Rattle.std.proofs.lemmas.Bool.{cases_eq, false≢true}
 use Rattle.std.proofs.lemmas.Bool.Decides.{nat_tests}
 use Rattle.contracts.specs.declared.rows.ContractRow.{ContractRow}
 use Rattle.contracts.specs.Chains.{row_at, Chain, goes, Ends}
@@ -39,46 +41,38 @@ module _ (rows : List ContractRow) where
       omega (arith, again.2)
 
   -- The walk from row `first` stands at o: earlier walks have ended, and what this one saw lies before o.
-  pub record Walking (first : ℕ) (o : Option ℕ) (walks : List ℕ) : Type 0 where
-    pub low : (k : ℕ) → get_or walks k 0 ≤ first + 1
-    pub earlier : (k : ℕ) → 0 < get_or walks k 0 → get_or walks k 0 ≤ first → Ends rows k
-    pub own : (k : ℕ) → get_or walks k 0 ≡ first + 1 → Before k o
+  pub record Walking (first : ℕ) (o : Option ℕ) (walks : List (Option ℕ)) : Type 0 where
+    pub seen : (k walk : ℕ) → get_or walks k None ≡ Some walk → ((walk < first) × Ends rows k) ⊎ ((walk ≡ first) × Before k o)
     pub back : (is : List ℕ) → Chain rows o is → Ends rows first
     pub forth : Ends rows first → (is : List ℕ) × Chain rows o is
 
   -- before the first walk no row is seen
-  pub walked_none : (n : ℕ) → Walked rows 0 (replicate n 0)
-  walked_none n = record { low = λ k. omega (arith, zeros n k); ends = λ k some. absurd (omega (arith, zeros n k)) }
+  pub walked_none : (n : ℕ) → Walked rows 0 (replicate n None)
+  walked_none n = record { low = λ k walk e. absurd (nones n k walk e); ends = λ k walk e. absurd (nones n k walk e) }
     where
-      zeros : (m k : ℕ) → get_or {A = ℕ} (replicate m 0) k 0 ≡ 0
-      zeros zero k = refl
-      zeros (suc m) zero = refl
-      zeros (suc m) (suc k) = zeros m k
+      nones : (m k walk : ℕ) → get_or {A = Option ℕ} (replicate m None) k None ≡ Some walk → ⊥
+      nones zero k walk e = cc
+      nones (suc m) zero walk e = cc
+      nones (suc m) (suc k) walk e = nones m k walk e
 
-  pub walking_none : (first : ℕ) (walks : List ℕ) → Walked rows first walks → Walking first (Some first) walks
+  pub walking_none : (first : ℕ) (walks : List (Option ℕ)) → Walked rows first walks → Walking first (Some first) walks
   walking_none first walks w =
       record {
-        low = λ k. omega (arith, w.low k);
-        earlier = λ k some h. w.ends k some;
-        own = λ k e. absurd (omega (arith, w.low k));
+        seen = λ k walk e. inl (w.low k walk e, w.ends k walk e);
         back = λ is c. record { members = is; chain = c };
         forth = λ e. (e.members, e.chain);
       }
 
-  pub walking_more : (first i : ℕ) (walks : List ℕ) → i < length walks → Walking first (Some i) walks → Walking first (row_at rows i).next (set walks i (first + 1))
+  pub walking_more : (first i : ℕ) (walks : List (Option ℕ)) → i < length walks → Walking first (Some i) walks → Walking first (row_at rows i).next (set walks i (Some first))
   walking_more first i walks h w =
       record {
-        low = λ k. ⊎_elim
-            (λ e. let same = get_or-set_same walks i (first + 1) 0 h in rw e (omega arith))
-            (λ n. let other = get_or-set_other walks i k (first + 1) 0 n in omega (arith, w.low k))
-            (cases_eq k i);
-        earlier = λ k some l. ⊎_elim
-            (λ e. let same : get_or (set walks i (first + 1)) k 0 ≡ first + 1 = rw e (get_or-set_same walks i (first + 1) 0 h) in absurd (omega arith))
-            (λ n. let other = get_or-set_other walks i k (first + 1) 0 n in w.earlier k (omega arith) (omega arith))
-            (cases_eq k i);
-        own = λ k e. ⊎_elim
-            (λ s. subst (λ x. Before x (row_at rows i).next) (sym s) (before_next i))
-            (λ n. let other = get_or-set_other walks i k (first + 1) 0 n in before_more k i (w.own k (omega arith)))
+        seen = λ k walk e. ⊎_elim
+            (λ s.
+            let here : get_or (set walks i (Some first)) k None ≡ Some first = rw s (get_or-set_same walks i (Some first) None h) in
+            inr (cc, subst (λ x. Before x (row_at rows i).next) (sym s) (before_next i)))
+            (λ n.
+            let other = get_or-set_other walks i k (Some first) None n in
+            ⊎_elim (λ a. inl a) (λ b. inr (b.0, before_more k i b.1)) (w.seen k walk cc))
             (cases_eq k i);
         back = λ is c. w.back (i ∷ is) (goes c);
         forth = λ e.
@@ -88,40 +82,31 @@ module _ (rows : List ContractRow) where
       }
 
   -- from where the walk stands, the chain ends: so do the chains of all that it saw
-  pub walking_ends : (first : ℕ) (o : Option ℕ) (walks is : List ℕ) → Chain rows o is → Walking first o walks → Walked rows (first + 1) walks
+  pub walking_ends : (first : ℕ) (o : Option ℕ) (walks : List (Option ℕ)) (is : List ℕ) → Chain rows o is → Walking first o walks → Walked rows (first + 1) walks
   walking_ends first o walks is c w =
       record {
-        low = w.low;
-        ends = λ k some. ⊎_elim
-            (λ l. w.earlier k some (omega arith))
-            (λ l. (w.own k (omega (arith, w.low k))).back is c)
-            (cases_lt (get_or walks k 0) (first + 1));
+        low = λ k walk e. ⊎_elim (λ a. omega (arith, a.0)) (λ b. omega (arith, b.0)) (w.seen k walk e);
+        ends = λ k walk e. ⊎_elim (λ a. a.1) (λ b. b.1.back is c) (w.seen k walk e);
       }
 
-  -- the walk is back where it was before
-  pub walking_circle : (first i : ℕ) (walks : List ℕ) → get_or walks i 0 ≡ first + 1 → Walking first (Some i) walks → Ends rows first → ⊥
-  walking_circle first i walks own w e =
-      let here = w.forth e in
-      before_itself i (w.own i own) (record { members = here.0; chain = here.1 })
-
-  -- what a walk tells that meets a row seen before
-  pub walking_stopped : (first i : ℕ) (walks : List ℕ) → (get_or walks i 0 ≡ 0 → ⊥) → Walking first (Some i) walks → Decides (not (eqb (get_or walks i 0) (first + 1))) (Ends rows first) × (not (eqb (get_or walks i 0) (first + 1)) ≡ true → Walked rows (first + 1) walks)
-  walking_stopped first i walks seen w =
+  -- what a walk tells that meets a row seen before: that it is back at a row of its own, or at one that is known to end
+  pub walking_stopped : (first i walk : ℕ) (walks : List (Option ℕ)) → get_or walks i None ≡ Some walk → Walking first (Some i) walks → (IsTrue (not (eqb walk first)) ↔ Ends rows first) × (IsTrue (not (eqb walk first)) → Walked rows (first + 1) walks)
+  walking_stopped first i walk walks seen w =
       ⊎_elim
-      (λ e.
-      let no : not (eqb (get_or walks i 0) (first + 1)) ≡ false = grind (arith, nat_tests) in
-      rw no ((λ h. absurd (false≢true h), λ ends. absurd (walking_circle first i walks e w ends)), λ h. absurd (false≢true h)))
-      (λ n.
-      let yes : not (eqb (get_or walks i 0) (first + 1)) ≡ true = grind (arith, nat_tests) in
-      let here = w.earlier i (omega arith) (omega (arith, w.low i)) in
-      rw yes ((λ _. w.back here.members here.chain, λ _. refl), λ _. walking_ends first (Some i) walks here.members here.chain w))
-      (cases_eq (get_or walks i 0) (first + 1))
+      (λ a.
+      let yes : not (eqb walk first) ≡ true = grind (arith, nat_tests, a.0) in
+      rw yes ((λ _. w.back a.1.members a.1.chain, λ _. refl), λ _. walking_ends first (Some i) walks a.1.members a.1.chain w))
+      (λ b.
+      let no : not (eqb walk first) ≡ false = grind (arith, nat_tests, b.0) in
+      let circle : Ends rows first → ⊥ = λ e. let here = w.forth e in before_itself i b.1 (record { members = here.0; chain = here.1 }) in
+      rw no ((λ h. absurd (false≢true h), λ e. absurd (circle e)), λ h. absurd (false≢true h)))
+      (w.seen i walk seen)
 
 -- how many rows no walk has seen
-abbrev pub unseen : List ℕ → ℕ
-unseen walks = count_by (λ w. eqb w 0) walks
+abbrev pub unseen : List (Option ℕ) → ℕ
+unseen walks = count_by is_none walks
 
-pub unseen_falls : (walks : List ℕ) (i n : ℕ) → i < length walks → get_or walks i 0 ≡ 0 → unseen (set walks i (n + 1)) < unseen walks
-unseen_falls walks i n h e =
-    let changed = sum_by-set (λ w. cond (eqb w 0) 1 0) walks i (n + 1) 0 h in
+pub unseen_falls : (walks : List (Option ℕ)) (i walk : ℕ) → i < length walks → get_or walks i None ≡ None → unseen (set walks i (Some walk)) < unseen walks
+unseen_falls walks i walk h e =
+    let changed = sum_by-set (λ w. cond (is_none w) 1 0) walks i (Some walk) None h in
     grind (arith, changed)

@@ -1,4 +1,4 @@
--- Sound tables: the empty one, what comes out of a table's invariant, and why a walk on one ends. Assumes nothing.
+-- Sound tables: what comes out of a table's invariant, and why a walk on one ends. Assumes nothing.
 use Rattle.std.proofs.Common.{◌≡◌, ℕ, zero, suc, ◌<◌, ◌≤◌, Bool, true, false, cond, List, [], length, Some, None, Option, refl, ap, arith}
 use mathlib.Core.Logic.{∥∥₁_elim}
 use native.Mathlib.Bridge.{le_prop}
@@ -8,16 +8,6 @@ use Rattle.std.proofs.lemmas.Bool.Decides.{nat_tests}
 use Rattle.contracts.specs.Chains.{row_at, head_of, Chain, done, goes, Ends, Sound, reaches_none}
 use Rattle.contracts.specs.Walks.{rows_left}
 use Rattle.contracts.proofs.Walks.{Inside, row_inside, chain_short, chain_from_reached, reached_from_chain, chain_next}
-
-pub sound_empty : Sound []
-sound_empty =
-    record {
-      small = omega arith;
-      capacities = λ i h. absurd (omega arith);
-      leads = λ i h. absurd (omega arith);
-      meets = λ i h. absurd (omega arith);
-      ends = λ i h. absurd (omega arith);
-    }
 
 -- The invariant of a table is truncated. Each part comes out again, since it is an order or an equation of numbers; that
 -- chains end does as the number that tells whether none is reached.

@@ -1,10 +1,13 @@
 -- A chain has no row twice, so it has at most as many rows as the table. Assumes nothing.
-use Rattle.std.proofs.Common.{◌≡◌, ℕ, zero, suc, ◌<◌, ◌≤◌, true, List, [], ◌∷◌, length, get_or, drop, Some, None, Option, refl, ap, subst, arith, length-drop}
+use Rattle.std.proofs.Common.{◌≡◌, ℕ, zero, suc, ◌<◌, ◌≤◌, true, eqb, List, [], ◌∷◌, length, get_or, drop, Some, None, Option, refl, ap, subst, arith, length-drop}
 use Rattle.std.proofs.lemmas.Bool.{false≢true}
+use Rattle.std.proofs.lemmas.Bool.Decides.{nat_tests}
+use Rattle.std.proofs.lemmas.List.Folds.{Any-from_list_any}
+use Rattle.std.proofs.lemmas.Map.Keys.{IsDistinct-from_apart}
+use Rattle.std.proofs.lemmas.Map.Steps.{length-le_from_distinct_below}
 use Rattle.contracts.specs.declared.rows.ContractRow.{ContractRow}
 use Rattle.contracts.specs.Chains.{row_at, Chain, done, goes, reaches_none, NextInTableAt, Each}
 use Rattle.contracts.specs.Check.{WithinRows}
-use Rattle.contracts.proofs.Pigeons.{pigeons}
 
 -- a walk stands at a row of the table, or at none
 abbrev pub Inside : List ContractRow → Option ℕ → Type 0
@@ -17,10 +20,10 @@ module _ (rows : List ContractRow) where
   chain_one o is js (goes {i = i} {is = ks} c) (goes {is = ls} d) = ap (λ xs. i ∷ xs) (chain_one (row_at rows i).next ks ls c d)
 
   -- from each row of a chain on, what is left is the chain of that row
-  pub chain_drop : (o : Option ℕ) (is : List ℕ) (p : ℕ) → Chain rows o is → p < length is → Chain rows (Some (get_or is p 0)) (drop p is)
-  chain_drop o is p done h = absurd (omega arith)
-  chain_drop o is zero (goes c) h = goes c
-  chain_drop o is (suc p) (goes {i = i} {is = js} c) h = chain_drop (row_at rows i).next js p c (omega arith)
+  pub chain_drop : (o : Option ℕ) (is : List ℕ) (p d : ℕ) → Chain rows o is → p < length is → Chain rows (Some (get_or is p d)) (drop p is)
+  chain_drop o is p d done h = absurd (omega arith)
+  chain_drop o is zero d (goes c) h = goes c
+  chain_drop o is (suc p) d (goes {i = i} {is = js} c) h = chain_drop (row_at rows i).next js p d c (omega arith)
 
   -- what is left after a row of a chain
   pub chain_next : (i : ℕ) (is : List ℕ) → Chain rows (Some i) is → (js : List ℕ) × Chain rows (row_at rows i).next js × (is ≡ i ∷ js)
@@ -28,21 +31,26 @@ module _ (rows : List ContractRow) where
 
   module _ (leads : Each NextInTableAt rows) where
     -- every row of a chain is a row of the table
-    pub chain_rows : (o : Option ℕ) (is : List ℕ) (p : ℕ) → Inside rows o → Chain rows o is → p < length is → get_or is p 0 < length rows
-    chain_rows o is p inside done h = absurd (omega arith)
-    chain_rows o is zero inside (goes {i = i} c) h = inside i refl
-    chain_rows o is (suc p) inside (goes {i = i} {is = js} c) h = chain_rows (row_at rows i).next js p (leads i (inside i refl)).in_table c (omega arith)
+    pub chain_rows : (o : Option ℕ) (is : List ℕ) (p d : ℕ) → Inside rows o → Chain rows o is → p < length is → get_or is p d < length rows
+    chain_rows o is p d inside done h = absurd (omega arith)
+    chain_rows o is zero d inside (goes {i = i} c) h = inside i refl
+    chain_rows o is (suc p) d inside (goes {i = i} {is = js} c) h = chain_rows (row_at rows i).next js p d (leads i (inside i refl)).in_table c (omega arith)
 
     -- equal rows have equal rests, and so the same place
-    pub chain_apart : (o : Option ℕ) (is : List ℕ) → Chain rows o is → (p q : ℕ) → p < length is → q < length is → get_or is p 0 ≡ get_or is q 0 → p ≡ q
-    chain_apart o is c p q h k e =
-        let here : Chain rows (Some (get_or is q 0)) (drop p is) = subst (λ x. Chain rows (Some x) (drop p is)) e (chain_drop o is p c h) in
-        let same = ap length (chain_one (Some (get_or is q 0)) (drop p is) (drop q is) here (chain_drop o is q c k)) in
+    pub chain_apart : (o : Option ℕ) (is : List ℕ) → Chain rows o is → (p q d : ℕ) → p < length is → q < length is → get_or is p d ≡ get_or is q d → p ≡ q
+    chain_apart o is c p q d h k e =
+        let here : Chain rows (Some (get_or is q d)) (drop p is) = subst (λ x. Chain rows (Some x) (drop p is)) e (chain_drop o is p d c h) in
+        let same = ap length (chain_one (Some (get_or is q d)) (drop p is) (drop q is) here (chain_drop o is q d c k)) in
         omega (arith, length-drop p is, length-drop q is)
 
     pub chain_short : (o : Option ℕ) (is : List ℕ) → Inside rows o → Chain rows o is → length is ≤ length rows
     chain_short o is inside c =
-        pigeons (length rows) (length is) (λ p. get_or is p 0) (λ p h. chain_rows o is p inside c h) (chain_apart o is c)
+        length-le_from_distinct_below is (length rows)
+        (IsDistinct-from_apart eqb is (λ p q d h k. let apart = chain_apart o is c p q d (omega arith) k in grind (arith, nat_tests)))
+        (λ i found.
+        let at = Any-from_list_any (eqb i) is found in
+        let inside = chain_rows o is at.0 at.1 inside c at.2 in
+        grind (arith, nat_tests, at.3, at.4))
 
   pub reached_from_chain : (n : ℕ) (o : Option ℕ) (is : List ℕ) → Chain rows o is → length is ≤ n → reaches_none rows n o ≡ true
   reached_from_chain n o is done h = refl
@@ -66,6 +74,6 @@ module _ (rows : List ContractRow) where
           λ e. let c = chain_from_reached (length rows) (Some i) e in record { members = c.0; chain = c.1 },
           λ e. reached_from_chain (length rows) (Some i) e.members e.chain (chain_short leads (Some i) e.members (row_inside i h) e.chain),
         );
-        no_row_twice = λ i is h c. chain_apart leads (Some i) is c;
+        no_row_twice = λ i is h c p q. chain_apart leads (Some i) is c p q 0;
         short = λ i is h c. chain_short leads (Some i) is (row_inside i h) c;
       }

@@ -1,5 +1,5 @@
 -- The worked tables, by computation. Assumes nothing.
-use Rattle.std.proofs.Common.{◌≡◌, ℕ, zero, suc, ◌<◌, true, List, length, Some, None, Option, sym, refl, arith}
+use Rattle.std.proofs.Common.{◌≡◌, ℕ, zero, suc, ◌<◌, true, List, length, Some, None, sym, refl, arith}
 use Rattle.std.proofs.lemmas.Bool.{false≢true}
 use Rattle.contracts.specs.declared.rows.ContractRow.{ContractRow}
 use Rattle.contracts.specs.Chains.{row_at, reaches_none, Each, CapacityWithinAt, NextInTableAt, MeetsAt, Ends}
@@ -13,20 +13,17 @@ three P a b c (suc zero) h = b
 three P a b c (suc (suc zero)) h = c
 three P a b c (suc (suc (suc i))) h = absurd (omega arith)
 
-some_one : (o : Option ℕ) (n j : ℕ) → o ≡ Some n → o ≡ Some j → n ≡ j
-some_one o n j e d = cc
-
 leads_to : (rows : List ContractRow) (i n : ℕ) → (row_at rows i).next ≡ Some n → n < length rows → NextInTableAt rows i
-leads_to rows i n e h = record { in_table = λ j d. let same = some_one (row_at rows i).next n j e d in omega arith }
+leads_to rows i n e h = record { in_table = λ j d. let same : n ≡ j = cc in omega arith }
 
 meets_at : (rows : List ContractRow) (i n : ℕ) → (row_at rows i).next ≡ Some n → (row_at rows i).delivery ≡ (row_at rows n).receipt → MeetsAt rows i
-meets_at rows i n e m = record { node = λ j d. let same = some_one (row_at rows i).next n j e d in rw (sym same) m }
+meets_at rows i n e m = record { node = λ j d. let same : n ≡ j = cc in rw (sym same) m }
 
 none_leads : (rows : List ContractRow) (i : ℕ) → (row_at rows i).next ≡ None → NextInTableAt rows i
-none_leads rows i e = record { in_table = λ j d. let z : ◌≡◌ {A = ℕ} 0 1 = cc in absurd (omega arith) }
+none_leads rows i e = record { in_table = λ j d. cc }
 
 none_meets : (rows : List ContractRow) (i : ℕ) → (row_at rows i).next ≡ None → MeetsAt rows i
-none_meets rows i e = record { node = λ j d. let z : ◌≡◌ {A = ℕ} 0 1 = cc in absurd (omega arith) }
+none_meets rows i e = record { node = λ j d. cc }
 
 circle_leads : Each NextInTableAt circle
 circle_leads = three (NextInTableAt circle) (leads_to circle 0 1 refl (omega arith)) (leads_to circle 1 2 refl (omega arith)) (leads_to circle 2 1 refl (omega arith))

@@ -1,5 +1,5 @@
 -- What the check of a contract table answers. Each test goes over all rows before the next begins.
-use Rattle.std.specs.Prelude.{◌≡◌, ℕ, ◌<◌, ◌≤◌, List, length, Some, Ok, Err, Decides, Result, slice_index}
+use Rattle.std.specs.Prelude.{◌≡◌, ℕ, ◌<◌, ◌≤◌, List, length, Some, Ok, Err, IsTrue, ◌↔◌, Result, slice_index}
 use Rattle.contracts.specs.declared.rows.ContractRow.{ContractRow}
 use Rattle.contracts.specs.declared.faults.TableFault.{TableFault}
 use Rattle.contracts.specs.declared.faults.TableFault.TheVariants.{TooManyRows, Capacity, NextNoRow, NodesApart, Endless, NoHead}
@@ -26,7 +26,7 @@ OneAnswer rows = (r s : Result ℕ TableFault) → Judged rows r → Judged rows
 -- Where every next is a row of the table:
 pub record WithinRows (rows : List ContractRow) : Type 0 where
   -- a chain ends if and only if it reaches none within as many rows as the table has;
-  pub reaches : (i : ℕ) → i < length rows → Decides (reaches_none rows (length rows) (Some i)) (Ends rows i)
+  pub reaches : (i : ℕ) → i < length rows → (IsTrue (reaches_none rows (length rows) (Some i)) ↔ Ends rows i)
   -- a chain that ends has no row twice,
   pub no_row_twice : (i : ℕ) (is : List ℕ) → i < length rows → Chain rows (Some i) is → (p q : ℕ) → p < length is → q < length is → slice_index is p ≡ slice_index is q → p ≡ q
   -- and so no more rows than the table

@@ -1,13 +1,13 @@
 -- What walks along chains keep.
-use Rattle.std.specs.Prelude.{ℕ, zero, suc, ◌<◌, ◌≤◌, List, length, Some, None, Option, slice_index}
+use Rattle.std.specs.Prelude.{◌≡◌, ℕ, zero, suc, ◌<◌, List, length, Some, None, Option, slice_index_or}
 use Rattle.contracts.specs.declared.rows.ContractRow.{ContractRow}
 use Rattle.contracts.specs.Chains.{row_at, Ends}
 
--- The check of chains: n walks were made, and all ended. A row has the number of the walk that saw it first, or 0 if none
--- did: no number is above n, and a row with one is known to end.
-pub record Walked (rows : List ContractRow) (n : ℕ) (walks : List ℕ) : Type 0 where
-  pub low : (k : ℕ) → slice_index walks k ≤ n
-  pub ends : (k : ℕ) → 0 < slice_index walks k → Ends rows k
+-- The check of chains: the walks from the first n rows were made, and all ended. A row has the number of the walk that saw
+-- it first, if one did: each number is below n, and a row with one is known to end.
+pub record Walked (rows : List ContractRow) (n : ℕ) (walks : List (Option ℕ)) : Type 0 where
+  pub low : (k walk : ℕ) → slice_index_or walks k None ≡ Some walk → walk < n
+  pub ends : (k walk : ℕ) → slice_index_or walks k None ≡ Some walk → Ends rows k
 
 -- how many rows a walk has before it, if they are at most n
 unfoldable pub rows_left : List ContractRow → ℕ → Option ℕ → ℕ

@@ -7,32 +7,13 @@ use crate::rows::ContractRow;
 
 /// A walk along a chain of a checked table: the rows in order, each with its place in the table. It needs no counter of
 /// steps, since in such a table every chain ends.
-#[derive(Drop)]
+#[derive(Debug, Drop)]
 pub struct ChainRows<'a> {
     pub(crate) rows: &'a [ContractRow],
     pub(crate) place: Option<usize>,
+    // truncated as in the table
     ghost sound: { ∥ Sound rows.now ∥₁ },
     ghost inside: { (j : ℕ) → place ≡ Some j → j < length rows.now },
-}
-
-impl<'a> ChainRows<'a> {
-    // Where the walk stands, and the row there.
-    fn here(&self) -> Option<(usize, ContractRow)>
-        ensures { MatchOption result (self.now.place ≡ None) (λ x. (self.now.place ≡ Some x.0) × (x.1 ≡ row_at self.now.rows.now x.0)) }
-    {
-        let place = self.place?;
-        Some((place, self.rows[place]))
-    }
-
-    // Goes on from the row where the walk stands.
-    fn advance(&mut self, place: usize)
-        requires { self.old.place ≡ Some place }
-        ensures rows { self.new.rows.now ≡ self.old.rows.now }
-        ensures next { self.new.place ≡ (row_at self.old.rows.now place).next }
-        ensures fewer { left_of self.new.rows.now self.new.place < left_of self.old.rows.now self.old.place }
-    {
-        self.place = self.rows[place].next;
-    }
 }
 
 impl<'a> Iterator for ChainRows<'a> {
@@ -42,9 +23,11 @@ impl<'a> Iterator for ChainRows<'a> {
 
     ghost remaining = { λ s. at_most (left_of s.rows.now s.place) };
 
+    #[tactic(auto, using(crate::proofs::Sounds::sound_of, crate::proofs::Sounds::sound_inside, crate::proofs::Sounds::sound_falls))]
     fn next(&mut self) -> Option<(usize, ContractRow)> {
-        let (place, row) = self.here()?;
-        self.advance(place);
+        let place = self.place?;
+        let row = self.rows[place];
+        self.place = row.next;
         Some((place, row))
     }
 }

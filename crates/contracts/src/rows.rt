@@ -1,7 +1,7 @@
 /// A row of a contract table: a segment of a transmission contract, from a receipt node to a delivery node, which is
 /// settled with the billing party.
 /// `capacity` is in thousandths of a MW. `next` is the place, in the table, of the segment that follows this one.
-#[derive(Clone, Copy)]
+#[derive(Clone, Copy, PartialEq, Eq, Debug)]
 pub struct ContractRow {
     pub party: usize,
     pub capacity: u32,

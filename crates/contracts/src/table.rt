@@ -1,4 +1,4 @@
-ghost use Rattle.std.specs.Prelude.{◌≡◌, ℕ, ◌<◌, ◌≤◌, List, [], length, Decides, MatchOption, MatchResult};
+ghost use Rattle.std.specs.Prelude.{◌≡◌, ℕ, ◌<◌, ◌≤◌, List, [], length, IsTrue, ◌↔◌, MatchOption, MatchResult};
 ghost use Rattle.contracts.specs.Chains.{Chain, Head, LeadsTo, Least, Sound, carried, head_of, row_at};
 ghost use Rattle.contracts.specs.declared.faults.TableFault.TheVariants.{NoHead};
 
@@ -9,9 +9,11 @@ use crate::rows::ContractRow;
 
 /// A contract table of at most 256 rows in which every chain ends, every next is a row that begins where the one before
 /// it ends, and capacities are within bounds.
-#[derive(Clone, Copy)]
+// Public clauses name its private field: a struct that is `Copy` and has a lifetime can have no `Model`.
+#[derive(Clone, Copy, PartialEq, Eq, Debug)]
 pub struct CheckedTable<'a> {
     rows: &'a [ContractRow],
+    // Truncated, since a ghost field holds a proposition, and a proof that chains end holds the chains.
     ghost sound: { ∥ Sound rows.now ∥₁ },
 }
 
@@ -22,7 +24,10 @@ impl<'a> CheckedTable<'a> {
         ensures failed { (Sound rows.now → ⊥) → result.rows.now ≡ [] }
     {
         CheckedTable {
-            rows: passing(rows),
+            rows: match check_contracts(rows) {
+                Ok(_) => rows,
+                Err(_) => &[],
+            },
         }
     }
 
@@ -33,20 +38,20 @@ impl<'a> CheckedTable<'a> {
         self.rows().len()
     }
 
-    // What the table is made of, with its invariant as a fact.
-    fn sound_rows(&self) -> &'a [ContractRow]
-        ensures same { result.now ≡ self.now.rows.now }
-        ensures sound { Sound result.now }
+    /// Whether the table has no rows.
+    pub fn is_empty(&self) -> bool
+        ensures { IsTrue result ↔ (self.now.rows.now ≡ []) }
     {
-        self.rows
+        self.rows().is_empty()
     }
 
     /// The rows of the table: a caller may rely on all that the check tests.
+    #[tactic(auto, using(crate::proofs::Sounds::sound_of))]
     pub fn rows(&self) -> &'a [ContractRow]
         ensures same { result.now ≡ self.now.rows.now }
         ensures sound { Sound result.now }
     {
-        self.sound_rows()
+        self.rows
     }
 
     /// The row at a place, if there is one.
@@ -60,11 +65,8 @@ impl<'a> CheckedTable<'a> {
     pub fn check_head(&self, head: usize) -> Result<(), TableFault>
         ensures { MatchResult result (λ _. head < length self.now.rows.now) (λ fault. (fault ≡ NoHead) × (length self.now.rows.now ≤ head)) }
     {
-        if head < self.rows.len() {
-            Ok(())
-        } else {
-            Err(TableFault::NoHead)
-        }
+        self.row(head).ok_or(TableFault::NoHead)?;
+        Ok(())
     }
 
     /// The walk along the chain that begins at row `head`; where that is no row, a walk of no rows.
@@ -72,20 +74,15 @@ impl<'a> CheckedTable<'a> {
         ensures rows { result.rows.now ≡ self.now.rows.now }
         ensures place { result.place ≡ head_of self.now.rows.now head }
     {
-        let place = if head < self.rows.len() {
-            Some(head)
-        } else {
-            None
-        };
         ChainRows {
             rows: self.rows,
-            place,
+            place: (head < self.rows.len()).then_some(head),
         }
     }
 
     /// Whether a chain begins at a row: it is a row, and none leads to it.
     pub fn is_head(&self, place: usize) -> bool
-        ensures { Decides result (Head self.now.rows.now place) }
+        ensures { IsTrue result ↔ Head self.now.rows.now place }
     {
         place < self.rows.len() && !leads_to(self.rows, place)
     }
@@ -101,28 +98,11 @@ impl<'a> CheckedTable<'a> {
     }
 }
 
-// The rows if they pass the check, else none.
-fn passing<'a>(rows: &'a [ContractRow]) -> &'a [ContractRow]
-    ensures passed { Sound rows.now → result.now ≡ rows.now }
-    ensures failed { (Sound rows.now → ⊥) → result.now ≡ [] }
-    ensures sound { Sound result.now }
-{
-    match check_contracts(rows) {
-        Ok(_) => rows,
-        Err(_) => &[],
-    }
-}
-
 // Whether some row leads to a place.
 fn leads_to(rows: &[ContractRow], place: usize) -> bool
-    ensures { Decides result ((j : ℕ) × (j < length rows.now) × LeadsTo rows.now place j) }
+    ensures { IsTrue result ↔ ((j : ℕ) × (j < length rows.now) × LeadsTo rows.now place j) }
 {
-    for row in rows {
-        if row.next == Some(place) {
-            return true;
-        }
-    }
-    false
+    rows.iter().any(|row| row.next == Some(place))
 }
 
 // The least of a quantity and the capacities of the rows that a walk has before it.
@@ -131,9 +111,5 @@ fn least_along(walk: ChainRows, quantity: u32) -> u32
     ensures least { (is : List ℕ) → Chain walk.entry.rows.now walk.entry.place is → result ≡ carried walk.entry.rows.now quantity is }
     ensures law { (is : List ℕ) → Chain walk.entry.rows.now walk.entry.place is → Least walk.entry.rows.now quantity is result }
 {
-    let mut least = quantity;
-    for (_place, row) in walk {
-        least = least.min(row.capacity);
-    }
-    least
+    walk.fold(quantity, |least, (_, row)| least.min(row.capacity))
 }

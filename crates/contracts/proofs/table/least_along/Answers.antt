@@ -1,30 +1,20 @@
-use Rattle.std.proofs.Common.{ap, ◌∙◌, rules}
-use Rattle.contracts.specs.Chains.{carried_by, row_at}
+use Rattle.std.proofs.Common.{◌≡◌, ℕ, List, [], ◌∷◌, min, fold, refl, ◌∙◌, rules}
+use Rattle.std.proofs.lemmas.Fn.{fold_over}
+use Rattle.std.proofs.lemmas.List.Folds.{fold-map}
+use Rattle.std.proofs.lemmas.List.Sums.{fold-append}
+use Rattle.contracts.specs.Chains.{Chain, row_at, carried}
 use Rattle.contracts.proofs.Carrying.{carried_least}
-use Rattle.contracts.proofs.Folding.{folding_none, folding_more, folding_all}
+use Rattle.contracts.proofs.Sounds.{sound_of, sound_chain}
+use Rattle.contracts.proofs.Yielding.{Steps, capacities_yielded}
 use Rattle.contracts.proofs.table.least_along.Goals as goal
-
-pub loop-place-init : goal.loop-place-init
-loop-place-init c =
-    let same = c.into_iter-place-iterator.ensures.into_iter_gives in
-    (search rules, ap (λ w. w.rows.now) same, folding_none (carried_by c.args.walk.rows.now) _ _ _ _ (ap (λ w. w.place) same))
-
-pub loop-place-preserved : goal.loop-place-preserved
-loop-place-preserved c =
-    let rows = c.loop-place.invariant.1 in
-    let step = c.in-Some.ensures.steps in
-    let here = step.1.1 ∙ ap (λ rs. row_at rs c.in-Some._place) rows in
-    let onward = step.1.2 ∙ ap (λ r. r.next) here in (
-      search rules,
-      step.0 ∙ rows,
-      rw (c.min-least.ensures, here) (folding_more (carried_by c.args.walk.rows.now) _ _ _ _ _ _ _ step.1.0 onward c.loop-place.invariant.2),
-    )
 
 pub returns : goal.returns
 returns c =
-    let least = folding_all (carried_by c.args.walk.rows.now) _ _ _ _ _ (search rules) c.loop-place.invariant.2 in
-    record {
-      most = c.loop-place.invariant.0;
-      least = least;
-      law = λ is chain. carried_least c.args.walk.rows.now c.args.quantity is c.loop-place.least (least is chain);
-    }
+    let least : (is : List ℕ) → Chain c.args.walk.rows.now c.args.walk.place is → c.fold.result ≡ carried c.args.walk.rows.now c.args.quantity is = λ is chain.
+    fold_over Steps (λ x. x.1.capacity) _ (λ capacities made. made ≡ fold min c.args.quantity capacities) _
+    (λ ys a x b f' j k. let more = fold-append min c.args.quantity ys (x.1.capacity ∷ []) in search rules)
+    _ _ _ _ (capacities_yielded _ _ is chain c.args.walk refl refl) refl c.fold.ensures.ran
+    ∙ fold-map min (λ i. (row_at c.args.walk.rows.now i).capacity) c.args.quantity is in
+    let all = sound_chain _ (sound_of _ c.args.walk.sound) _ c.args.walk.inside in
+    let law = λ (is : List ℕ) (chain : Chain c.args.walk.rows.now c.args.walk.place is). carried_least c.args.walk.rows.now c.args.quantity is c.fold.result (least is chain) in
+    record { most = (law all.0 all.1).most; least = least; law = law }
