@@ -9,7 +9,7 @@ ghost use Rattle.contracts.specs.Refusals.{table_refusal};
 ghost use Rattle.std.specs.Prelude.{◌≡◌, IfOk, string_bytes};
 
 use chains::table_text;
-use contracts::{CheckedTable, ContractRow, TableFault, check_contracts};
+use contracts::{CheckedTable, ContractRow, TableFault};
 use refusals::Refusal;
 use std::alloc::{AllocError, Global};
 
@@ -26,8 +26,8 @@ fn refused_text(heap: Global, fault: TableFault) -> Result<String, AllocError>
 pub fn contract_report(heap: Global, rows: &[ContractRow]) -> Result<String, AllocError>
     ensures { IfOk result (λ text. Report rows.now (string_bytes text)) }
 {
-    match check_contracts(rows) {
-        Ok(_) => table_text(heap, &CheckedTable::new(rows)),
+    match CheckedTable::try_from(rows) {
+        Ok(table) => table_text(heap, &table),
         Err(fault) => refused_text(heap, fault),
     }
 }

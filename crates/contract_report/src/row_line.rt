@@ -18,7 +18,11 @@ impl fmt::Display for RowLine {
 
     fn fmt<W: fmt::Write>(&self, f: &mut fmt::Formatter<W>) -> fmt::Result {
         let row = self.row;
-        write!(f, "chain {}: row {} party {}", self.head, self.place, row.party)?;
+        write!(
+            f,
+            "chain {}: row {} party {}",
+            self.head, self.place, row.party
+        )?;
         write!(f, " capacity {}", row.capacity)?;
         write!(f, " receipt {} delivery {}", row.receipt, row.delivery)
     }

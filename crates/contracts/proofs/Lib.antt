@@ -1,4 +1,4 @@
-mod Answer
+pub mod Answer
 mod Carrying
 pub mod Folding
 mod Marking

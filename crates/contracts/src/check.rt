@@ -72,7 +72,8 @@ impl<'a> LinkedRows<'a> {
     }
 
     // Walks from row `first` and writes the walk's number, which is `first`, at each new row. A row that an earlier walk saw
-    // is known to end; one that this walk saw closes a circle. So all walks together write at each row once.
+    // is known to end; one that this walk saw closes a circle. So all walks together write at each row once. (`successors`
+    // would have no end of its own on a circle.)
     fn chain_ends(&self, first: usize, walks: &mut [Option<usize>; MAX_ROWS]) -> bool
         requires row { first < length self.now.rows.now }
         requires walked { Walked self.now.rows.now first walks.old }

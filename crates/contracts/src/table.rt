@@ -1,5 +1,6 @@
 ghost use Rattle.std.specs.Prelude.{◌≡◌, ℕ, ◌<◌, ◌≤◌, List, [], length, IsTrue, ◌↔◌, MatchOption, MatchResult};
 ghost use Rattle.contracts.specs.Chains.{Chain, Head, LeadsTo, Least, Sound, carried, head_of, row_at};
+ghost use Rattle.contracts.specs.Check.{Fails};
 ghost use Rattle.contracts.specs.declared.faults.TableFault.TheVariants.{NoHead};
 
 use crate::chain::ChainRows;
@@ -95,6 +96,18 @@ impl<'a> CheckedTable<'a> {
         ensures law { (is : List ℕ) → Chain self.now.rows.now (head_of self.now.rows.now head) is → Least self.now.rows.now quantity is result }
     {
         least_along(self.chain(head), quantity)
+    }
+}
+
+/// The table of these rows, or the first test that fails with the lowest row.
+impl<'a> TryFrom<&'a [ContractRow]> for CheckedTable<'a> {
+    type Error = TableFault;
+
+    ghost try_from_gives = { λ rows r. MatchResult r (λ table. (table.rows.now ≡ rows.now) × Sound rows.now) (Fails rows.now) };
+
+    fn try_from(rows: &'a [ContractRow]) -> Result<CheckedTable<'a>, TableFault> {
+        check_contracts(rows)?;
+        Ok(CheckedTable { rows })
     }
 }
 

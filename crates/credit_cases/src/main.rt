@@ -13,7 +13,7 @@ use std::io;
 
 // What a call answered, or its refusal.
 fn print_answer<T, F, S>(
-    rt: &HostRuntime,
+    rt: &impl Print,
     name: &str,
     answer: Result<T, F>,
     show: S,
@@ -34,7 +34,7 @@ where
 }
 
 // The places of the rows along the chain.
-fn print_chain(rt: &HostRuntime, table: &CheckedTable, head: usize) -> anyhow::Result<()> {
+fn print_chain(rt: &impl Print, table: &CheckedTable, head: usize) -> anyhow::Result<()> {
     print!(rt; "chain:")?;
     for (place, _) in table.chain(head) {
         print!(rt; " {place}")?;
@@ -44,7 +44,7 @@ fn print_chain(rt: &HostRuntime, table: &CheckedTable, head: usize) -> anyhow::R
 }
 
 // The weighted price of each node that has a record.
-fn print_prices(rt: &HostRuntime, nodes: &[NodeRecord]) -> anyhow::Result<()> {
+fn print_prices(rt: &impl Print, nodes: &[NodeRecord]) -> anyhow::Result<()> {
     print!(rt; "prices:")?;
     for node in 0..nodes.len() {
         match node_price(nodes, node) {
@@ -56,7 +56,7 @@ fn print_prices(rt: &HostRuntime, nodes: &[NodeRecord]) -> anyhow::Result<()> {
     Ok(())
 }
 
-fn print_case(rt: &HostRuntime, case: &Case) -> anyhow::Result<()> {
+fn print_case(rt: &impl Print, case: &Case) -> anyhow::Result<()> {
     let rows = case.rows.as_slice();
     let nodes = case.nodes.as_slice();
     let table = CheckedTable::new(rows);
@@ -75,7 +75,7 @@ fn print_case(rt: &HostRuntime, case: &Case) -> anyhow::Result<()> {
     })
 }
 
-fn run(rt: &HostRuntime) -> anyhow::Result<()> {
+fn run(rt: &(impl Input + Print + AllocGlobal)) -> anyhow::Result<()> {
     for (i, line) in rt.lines(rt.alloc()).enumerate() {
         println!(rt; "case {i}")?;
         print_case(rt, &read(rt.alloc(), line?.as_str())?)?;

@@ -20,6 +20,7 @@ use sharing_out::shared;
 use std::alloc::{AllocError, Global};
 use std::env;
 use std::process::ExitCode;
+use std::rt::{Env, Files};
 use task::Task;
 
 // The task, and a line for each rule: one text, which is there before anything is printed.
@@ -49,7 +50,7 @@ fn share(rt: &(impl Print + AllocGlobal), words: &[String]) -> anyhow::Result<()
     Ok(())
 }
 
-fn run(rt: &HostRuntime) -> anyhow::Result<()> {
+fn run(rt: &(impl Env + Files + Print + AllocGlobal)) -> anyhow::Result<()> {
     let words: Vec<String> = env::args(rt)?.skip(1).collect(rt.alloc())?;
     match words.as_slice() {
         words if asks_usage(words) => rt.println(Usage)?,

@@ -7,7 +7,7 @@ use sharing::SharingRule;
 use std::alloc::{AllocError, Global};
 
 // The share of each weight, and the rest of the amount.
-#[derive(Drop)]
+#[derive(Debug, Drop)]
 pub(super) struct Shares {
     pub(super) shares: Vec<i64>,
     pub(super) rest: i64,

@@ -3,7 +3,7 @@ ghost use Rattle.std.specs.Prelude.{◌≡◌, sum};
 ghost use Rattle.sharing.specs.Sharing.{Within};
 
 // It lies inside the bounds of the sharing rules, so that every rule shares it.
-#[derive(Drop)]
+#[derive(Debug, Drop)]
 pub(super) struct Task {
     pub(super) amount: i64,
     pub(super) weights: Vec<u32>,
