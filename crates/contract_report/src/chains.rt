@@ -43,7 +43,7 @@ fn count_text(heap: Global, count: usize) -> Result<String, AllocError>
     format!(in heap; "contracts: {count} rows\n")
 }
 
-// The row count of a table, and what is printed at each of its rows.
+// The row count of a table, and what is printed at each of its rows, by place: each place is asked whether a chain begins.
 pub(super) fn table_text(heap: Global, table: &CheckedTable) -> Result<String, AllocError>
     ensures { IfOk result (λ text. ChainsText table.now.rows.now (string_bytes text)) }
 {

@@ -19,7 +19,8 @@ pub struct CheckedTable<'a> {
 }
 
 impl<'a> CheckedTable<'a> {
-    /// The table of these rows if they pass the check, else the empty table.
+    /// The table of these rows if they pass the check, else the empty table: a call that cannot fail. Whoever wants the
+    /// fault takes `try_from`.
     pub fn new(rows: &'a [ContractRow]) -> CheckedTable<'a>
         ensures passed { Sound rows.now → result.rows.now ≡ rows.now }
         ensures failed { (Sound rows.now → ⊥) → result.rows.now ≡ [] }
@@ -70,7 +71,8 @@ impl<'a> CheckedTable<'a> {
         Ok(())
     }
 
-    /// The walk along the chain that begins at row `head`; where that is no row, a walk of no rows.
+    /// The walk along the chain that begins at row `head`; where that is no row, a walk of no rows, a call that cannot fail.
+    /// Whoever wants the fault asks `check_head`.
     pub fn chain(&self, head: usize) -> ChainRows<'a>
         ensures rows { result.rows.now ≡ self.now.rows.now }
         ensures place { result.place ≡ head_of self.now.rows.now head }

@@ -1,4 +1,5 @@
-// The numbers that words write.
+// The numbers that words write. Both functions are a call of the one generic `parse`; their clauses say what it reads at
+// each type, in the words of the program.
 ghost use Rattle.std.specs.Option.{SomeIff};
 ghost use Rattle.evening.specs.Words.{IsAmount, amount_of, IsWeight, weight_of};
 

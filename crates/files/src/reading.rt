@@ -25,7 +25,8 @@ impl fmt::Display for FileFault {
     }
 }
 
-// An error enum that is derived has a `From` without a contract, and clauses read what these give.
+// The `From` that is derived for an error enum has no contract, and clauses read what these give; so each of the two enums
+// that name want of memory has its own.
 impl From<AllocError> for FileFault {
     ghost from_gives = { λ _ r. r ≡ Memory };
 

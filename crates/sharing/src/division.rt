@@ -11,8 +11,10 @@ use rounding::{nearest_by, with_sign};
 use std::num::NonZeroU64;
 
 // An amount and the weights that it is divided over, inside the bounds of the rules, with the total of the weights. What
-// is divided is the size of the amount; `signed` puts the sign back. A weight is named by its place, and so a loop that
-// writes the shares counts places: after a `zip` with `shares.iter_mut()` a proof knows nothing of the shares.
+// is divided is the size of the amount; `signed` puts the sign back. A weight is named by its place, a plain index (a type
+// of places would be made anew at each step of a loop), and so a loop that writes the shares counts places: after a `zip`
+// with `shares.iter_mut()` a proof knows nothing of the shares. The cells are handed in beside it: for a struct of both,
+// which holds a `&mut` and has a ghost field, the check makes no proof.
 #[derive(Clone, Copy, Debug)]
 pub(super) struct Division<'a> {
     pub(super) amount: i64,
@@ -103,7 +105,7 @@ impl<'a> Division<'a> {
         other > own || other == own && j < i
     }
 
-    // How many places come before place `i` for a spare cent.
+    // How many places come before place `i` for a spare cent. (`as`, since Rust has no `From` of a count to a `u64`.)
     fn rank(&self, i: usize) -> u64
         requires { i < length self.now.weights.now }
         ensures { result ≡ rank (unsigned_abs self.now.amount) self.now.weights.now i }

@@ -9,7 +9,8 @@ pub trait SharingRule {
     ghost meaning: { Self → ℤ → List ℕ → List ℤ };
 
     /// Writes the share of each weight into the cell of its place, and answers the rest of the amount. Outside the
-    /// bounds, or with a table that is not as long as the weights, it writes nothing and answers the amount.
+    /// bounds, or with a table that is not as long as the weights, it writes nothing and answers the amount: a plain
+    /// amount and no `Result`, so that what is left is booked in one way, whether or not shares were written.
     fn share(&self, amount: i64, weights: &[u32], shares: &mut [i64]) -> i64
         ensures { Shared (meaning self.now) amount weights.now shares.old shares.new result };
 
