@@ -53,7 +53,7 @@ def all_functions():
 def twins():
     groups = collections.defaultdict(list)
     for name, _, body in all_functions():
-        if len([line for line in body if line.strip()]) > 1:
+        if any(line.strip() for line in body):
             groups[shape(body)].append(name)
     for names in groups.values():
         if len(names) > 1:
