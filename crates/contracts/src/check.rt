@@ -15,7 +15,8 @@ pub const MAX_ROWS: usize = 256;
 /// The largest capacity of a row.
 pub const MAX_CAPACITY_MILLI_MW: u32 = 1_000_000;
 
-// Whether all rows pass a test, or else the lowest row that does not.
+// Whether all rows pass a test, or else the lowest row that does not. (The project has these tests as loops over the rows
+// with index.)
 fn check_each<F: Fn(&ContractRow) -> bool>(rows: &[ContractRow], passes: F) -> Result<(), usize>
     requires { TakesRows (F.pre passes) rows.now }
     ensures { MatchResult result (λ _. Each (PassesAt (FnReturnsAt F.Fn passes)) rows.now) (FirstFailing (FnReturnsAt F.Fn passes) rows.now) }

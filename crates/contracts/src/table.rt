@@ -25,12 +25,7 @@ impl<'a> CheckedTable<'a> {
         ensures passed { Sound rows.now → result.rows.now ≡ rows.now }
         ensures failed { (Sound rows.now → ⊥) → result.rows.now ≡ [] }
     {
-        CheckedTable {
-            rows: match check_contracts(rows) {
-                Ok(_) => rows,
-                Err(_) => &[],
-            },
-        }
+        CheckedTable::try_from(rows).unwrap_or(CheckedTable { rows: &[] })
     }
 
     /// How many rows the table has.

@@ -5,7 +5,8 @@ use std::marker::Model;
 
 /// The credits of the rows of one chain, in cents and in the chain's order; a negative one is paid to the billing party.
 /// No chain is longer than a table may be.
-// The crate `arrayvec` has such a list, but its `ArrayVec` is not `Copy`, and these credits are.
+// In an array, since nothing is allocated here. The crate `arrayvec` has such a list, but its `ArrayVec` is not `Copy`, and
+// these credits are.
 #[derive(Clone, Copy, Debug, PartialEq, Eq)]
 pub struct ChainCredits {
     cells: [i64; MAX_ROWS],

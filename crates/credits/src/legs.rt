@@ -5,12 +5,12 @@ ghost use Rattle.credits.specs.Legs.{node_leg, row_credit};
 
 use crate::faults::PriceFault;
 use crate::nodes::NodeRecord;
-use crate::prices::price_of;
+use crate::prices::node_price;
 use crate::quantities::BalancedQuantity;
 use contracts::ContractRow;
 
-// The leg of a node, in cents; or the node's fault. The records and the quantity stay two parameters: callers of
-// `row_credit` have the two, so a struct of them would be made anew for each row.
+// The leg of a node, in cents; or the node's fault. The records and the quantity stay two parameters, as they are of the
+// public `row_credit`: a struct of them would be a second way to ask the same.
 fn node_leg(
     nodes: &[NodeRecord],
     node: usize,
@@ -19,7 +19,7 @@ fn node_leg(
     ensures answer { Answers (node_fault nodes.now node) (node_leg nodes.now quantity.milli_mwh node) result }
     ensures small { IfOk result (λ cents. unsigned_abs cents ≤ 100000000) }
 {
-    Ok(quantity.leg(price_of(nodes, node)?))
+    Ok(quantity.leg(node_price(nodes, node)?))
 }
 
 /// The credit of a row at a balanced quantity, in cents: its receipt leg less its delivery leg. A negative one is paid to

@@ -1,5 +1,5 @@
 // The weighted price of a node.
-ghost use Rattle.std.specs.Prelude.{◌≡◌, ◌*◌, ◌≤◌, true, false, ◌+ℤ◌, MatchOption, unsigned_abs};
+ghost use Rattle.std.specs.Prelude.{◌≡◌, ◌*◌, ◌≤◌, true, false, ◌+ℤ◌, IfOk, MatchOption, unsigned_abs};
 ghost use Rattle.credits.specs.Prices.{node_at, total_deviation, weighed, weighted_sum, plain_mean, weighted_price, within_bounds};
 ghost use Rattle.credits.specs.Faults.{node_fault, AnswersBy};
 ghost use Rattle.credits.specs.Limits.{Limits, NearestAmounts};
@@ -35,6 +35,7 @@ impl BoundedRecord {
     fn new(hour: NodeRecord) -> Option<BoundedRecord>
         ensures { MatchOption result (within_bounds hour ≡ false) (λ r. r.hour ≡ hour) }
     {
+        // Not `then`: in its closure a proof would not know the test.
         if within_bounds(hour) {
             Some(BoundedRecord { hour })
         } else {
@@ -65,7 +66,7 @@ impl BoundedRecord {
         self.hour.fifteen_minute_price + self.hour.dispatch_price
     }
 
-    // The plain mean of the prices.
+    // The plain mean of the prices. (The divisor is tested here, since a constant cannot be made by `NonZeroU64::new`.)
     fn plain_mean(self) -> i64
         ensures { result ≡ plain_mean self.hour }
     {
@@ -120,19 +121,14 @@ fn bounded_record(nodes: &[NodeRecord], node: usize) -> Result<BoundedRecord, Pr
     BoundedRecord::new(hour).ok_or(PriceFault::OutOfBounds(node))
 }
 
-// The weighted price of a node; or its fault.
-pub(super) fn price_of(nodes: &[NodeRecord], node: usize) -> Result<Price, PriceFault>
-    ensures { AnswersBy (λ p. p.millicents) (node_fault nodes.now node) (weighted_price (node_at nodes.now node)) result }
-{
-    Ok(bounded_record(nodes, node)?.weighted_price())
-}
-
 /// The weighted price of a node; or its fault.
+#[tactic(auto, using(crate::proofs::Nearests::nearest_amounts, crate::proofs::AllLimits::limits, crate::proofs::Worked::figures))]
 pub fn node_price(nodes: &[NodeRecord], node: usize) -> Result<Price, PriceFault>
     ensures answer { AnswersBy (λ p. p.millicents) (node_fault nodes.now node) (weighted_price (node_at nodes.now node)) result }
+    ensures small { IfOk result (λ p. unsigned_abs p.millicents ≤ 100000000) }
     ensures nearest { NearestAmounts }
     ensures limits { Limits }
     ensures figures { Figures }
 {
-    price_of(nodes, node)
+    Ok(bounded_record(nodes, node)?.weighted_price())
 }

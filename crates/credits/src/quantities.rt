@@ -46,7 +46,7 @@ impl BalancedQuantity {
         self.milli_mwh * price.millicents
     }
 
-    // The leg at a price, in cents.
+    // The leg at a price, in cents. (The divisor is tested here, since a constant cannot be made by `NonZeroU64::new`.)
     pub(crate) fn leg(self, price: Price) -> i64
         ensures value { result ≡ leg self.milli_mwh price.millicents }
         ensures small { unsigned_abs result ≤ 100000000 }

@@ -14,11 +14,9 @@ fn file_bytes(
     name: &str,
 ) -> anyhow::Result<Vec<u8>> {
     let path = format!(in rt.alloc(); "{folder}/{name}.csv")?;
-    match fs::read(rt, path.as_str()) {
-        Ok(bytes) => Ok(bytes),
-        // The path is last, since a long message is cut.
-        Err(error) => Err(anyhow!("{name}.csv cannot be read, {error}: {path}")),
-    }
+    // The path is last, since a long message is cut.
+    fs::read(rt, path.as_str())
+        .map_err(|error| anyhow!("{name}.csv cannot be read, {error}: {path}"))
 }
 
 // The rows of a file of the folder. A line that is none of a row is reported, and ends the run.
@@ -30,7 +28,7 @@ fn rows_of<R: LineText + Drop>(
     let bytes = file_bytes(rt, folder, name)?;
     match read_rows(rt.alloc(), bytes.as_slice()) {
         Ok(rows) => Ok(rows),
-        Err(FileFault::Memory) => bail!("not enough memory"),
+        Err(fault @ FileFault::Memory) => bail!("{fault}"),
         Err(fault) => {
             println!(rt; "{name}: {fault}")?;
             bail!("{name}.csv is not read past that line")

@@ -45,7 +45,7 @@ impl From<OutOfBounds> for TaskFault {
     }
 }
 
-// The weights that the words write.
+// The weights that the words write. (A loop, since of a `try_collect` no clause says that it fails where an item does.)
 fn weights(heap: Global, words: &[String]) -> Result<Vec<u32>, TaskFault>
     ensures { MatchResult result (λ v. Weighed (map string_bytes words.now) v.items) (Unweighed (map string_bytes words.now)) }
 {

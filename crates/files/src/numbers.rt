@@ -76,8 +76,8 @@ impl FieldText for Option<usize> {
         if field.is_empty() {
             return Some(None);
         }
-        let place = number(field)?;
-        Some(Some(place as usize))
+        // A place holds every `u32`.
+        number(field).map(|place| Some(place as usize))
     }
 }
 

@@ -93,9 +93,8 @@ mod tests {
     #[test]
     fn reports(rt: HostRuntime) -> Result<(), Fail> {
         for (text, wanted) in REPORTS {
-            let Ok(report) = report_of(rt.alloc(), text) else {
-                return Err(Fail::new("a table is not read"));
-            };
+            let report =
+                report_of(rt.alloc(), text).map_err(|_| Fail::new("a table is not read"))?;
             assert_eq!(rt; report.as_str(), wanted);
         }
         Ok(())

@@ -15,8 +15,9 @@ pub enum Layer {
     Book,
 }
 
-/// A refusal by its number, with the layer it comes from and the place it is about, 0 if none is named. It is what is
-/// reported; each layer that refuses has an enum of its faults, and turns them into this by `From`.
+/// A refusal by its number, with the layer it comes from and the place it is about, 0 if none is named: what is printed,
+/// which has a number there in any case. Each layer that refuses has an enum of its faults, and turns them into this by
+/// `From`.
 #[derive(Clone, Copy, PartialEq, Eq, Debug)]
 pub struct Refusal {
     pub number: u32,

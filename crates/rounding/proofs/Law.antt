@@ -1,9 +1,9 @@
 -- Why the rounded number is the nearest one, and the only one that the law allows. Assumes nothing.
 use Rattle.std.proofs.Common.{◌≡◌, ℕ, ◌+◌, ◌-◌, ◌*◌, ◌<◌, ◌≤◌, ◌⊎◌, ℤ, pos, negsuc, ◌+ℤ◌, ◌-ℤ◌, ◌*ℤ◌, nat_abs, ◌≤ℤ◌, sym, ap, ◌∙◌, subst, inl, inr, ⊎_elim, mul-le-mul_right, arith}
-use Rattle.std.proofs.lemmas.Int.{ints}
+use Rattle.std.proofs.lemmas.Int.{ints, unsigned_abs-mul}
 use Rattle.std.proofs.lemmas.Bool.{cases_eq, cases_lt}
 use Rattle.rounding.specs.Nearest.{signed, half_up, nearest, miss, Nearest, Only, Rounded}
-use Rattle.rounding.proofs.Signs.{signed_self, nat_abs-signed, signed_mul, signed_apart, nat_abs_mul}
+use Rattle.rounding.proofs.Signs.{signed_self, nat_abs-signed, signed_mul, signed_apart}
 use Rattle.rounding.proofs.HalfUp.{half_up_near}
 
 -- z × d is at least d below q × d
@@ -52,8 +52,8 @@ module _ (n : ℤ) (d : ℕ) (some : 0 < d) (q : ℤ) (half : Halfway n d q) whe
   one_step : 0 < nat_abs (q *ℤ pos d) → d ≤ nat_abs (q *ℤ pos d)
   one_step h =
       ⊎_elim
-      (λ e. absurd (omega (arith, nat_abs_mul q d, ap (λ x. x * d) e)))
-      (λ differ. omega (arith, nat_abs_mul q d, mul_step 0 (nat_abs q) d (omega arith)))
+      (λ e. absurd (omega (arith, unsigned_abs-mul q (pos d), ap (λ x. x * d) e)))
+      (λ differ. omega (arith, unsigned_abs-mul q (pos d), mul_step 0 (nat_abs q) d (omega arith)))
       (cases_eq (nat_abs q) 0)
 
   closer : (z : ℤ) → (z ≡ q → ⊥) → miss n d z ≡ miss n d q → nat_abs z < nat_abs q
@@ -62,7 +62,7 @@ module _ (n : ℤ) (d : ℕ) (some : 0 < d) (q : ℤ) (half : Halfway n d q) whe
       let far : nat_abs n < nat_abs (q *ℤ pos d) = half.away out in
       let step : d ≤ nat_abs (q *ℤ pos d) = one_step (omega arith) in
       let less : nat_abs (z *ℤ pos d) < nat_abs (q *ℤ pos d) = ⊎_elim (λ e. absurd (differ e)) (λ s. ⊎_elim (λ below. omega (arith, ints)) (λ above. omega (arith, ints)) s) (stepped z q d) in
-      ⊎_elim (λ h. h) (λ h. absurd (omega (arith, nat_abs_mul z d, nat_abs_mul q d, mul-le-mul_right d h))) (cases_lt (nat_abs z) (nat_abs q))
+      ⊎_elim (λ h. h) (λ h. absurd (omega (arith, unsigned_abs-mul z (pos d), unsigned_abs-mul q (pos d), mul-le-mul_right d h))) (cases_lt (nat_abs z) (nat_abs q))
 
   pub halfway_nearest : Nearest n d q
   halfway_nearest = record { near = nearer; outward = closer }

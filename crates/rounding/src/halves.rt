@@ -22,7 +22,8 @@ fn half_up(m: u64, d: NonZeroU64) -> u64
     m / d + u64::from(at_least_half(m % d, d.get()))
 }
 
-// The whole number nearest to `n / d`, with the law that singles it out.
+// The whole number nearest to `n / d`, with the law that singles it out. It stands apart from `nearest_by`, which hands on
+// to it, so that a wrong divisor there fails this contract alone.
 pub(super) fn nearest_quotient(n: i64, d: NonZeroU64) -> i64
     ensures { Rounded n (non_zero_u64_get d) result }
 {

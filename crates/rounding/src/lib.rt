@@ -20,13 +20,11 @@ pub fn with_sign(n: i64, size: u64) -> Option<i64>
     if size > n.unsigned_abs() {
         return None;
     }
-    // At the least `i64` the size is 2^63, whose cast is that number itself, and so is its wrapping negation.
-    let forward = size.cast_signed();
-    Some(if n < 0 {
-        forward.wrapping_neg()
+    if n < 0 {
+        0i64.checked_sub_unsigned(size)
     } else {
-        forward
-    })
+        0i64.checked_add_unsigned(size)
+    }
 }
 
 // The whole number nearest to `n / d`, a half going away from zero.

@@ -57,7 +57,7 @@ module _ (m : ℕ) (ws : List ℕ) (some : 0 < sum ws) where
       omega (arith, upto_add (λ j. whole m ws j * w) (left m ws) n, upto-mul (whole m ws) w n)
 
   -- the whole cents of all weights, by weight and by place
-  wholes : upto (whole m ws) (length ws) ≡ sum_by (portion m ws) ws
+  pub wholes : upto (whole m ws) (length ws) ≡ sum_by (portion m ws) ws
   wholes = upto-list (portion m ws) ws
 
   pub wholes_le : sum_by (portion m ws) ws ≤ m

@@ -105,7 +105,8 @@ impl<'a> Division<'a> {
         other > own || other == own && j < i
     }
 
-    // How many places come before place `i` for a spare cent. (`as`, since Rust has no `From` of a count to a `u64`.)
+    // How many places come before place `i` for a spare cent. They are counted and not sorted, since nothing is allocated
+    // here, and the rule's law speaks of this count. (`as`, since Rust has no `From` of a count to a `u64`.)
     fn rank(&self, i: usize) -> u64
         requires { i < length self.now.weights.now }
         ensures { result ≡ rank (unsigned_abs self.now.amount) self.now.weights.now i }

@@ -36,6 +36,8 @@ impl SharingRule for RateRule {
         ensures rule { Shared rate amount weights.now shares.old shares.new result }
         ensures law { Ready amount weights.now (length shares.old) → Unique (NearestShares amount weights.now) shares.new }
     {
+        // Each rule has this guard: a method of the interface that only writes would ask its caller for a division, and no
+        // public call asks anything.
         let Some(division) = Division::of(amount, weights, shares.len()) else {
             return amount;
         };

@@ -47,8 +47,8 @@ impl SharingRule for RunningRule {
         ensures rule { Shared running amount weights.now shares.old shares.new result }
         ensures law { Ready amount weights.now (length shares.old) → Unique (RunningShares amount weights.now) shares.new }
     {
-        // Each rule has this guard: a function that took the writing as a closure would say what is written through its
-        // `F.post`, and be no shorter.
+        // Each rule has this guard: a method of the interface that only writes would ask its caller for a division, and no
+        // public call asks anything.
         let Some(division) = Division::of(amount, weights, shares.len()) else {
             return amount;
         };

@@ -1,13 +1,12 @@
 use Rattle.std.proofs.Common.{◌≡◌, ℕ, ◌^◌, ◌<◌, ◌≤◌, ℤ, pos, ◌*ℤ◌, nat_abs, slice_index, sum, ◌∙◌, mul-le-mul_right, arith, w64, SFits, to_z, of_z}
-use Rattle.std.proofs.lemmas.Int.{ints, to_z-of_z}
+use Rattle.std.proofs.lemmas.Int.{ints, to_z-of_z, unsigned_abs-mul}
 use Rattle.std.proofs.lemmas.Nat.{mul-le}
-use Rattle.rounding.proofs.Signs.{nat_abs_mul}
 use Rattle.rounding.proofs.HalfUp.{nearest_le}
 use Rattle.sharing.specs.Rate.{rate_at}
 use Rattle.sharing.proofs.division.Division.nearest_share.Goals as goal
 
 product_fits : (f : ℤ) (w : ℕ) → nat_abs f ≤ 1000000000 → w < 2 ^ 32 → SFits w64 (f *ℤ pos w)
-product_fits f w a b = omega (arith, ints, nat_abs_mul f w, mul-le (nat_abs f) w 1000000000 4294967296 a (omega arith))
+product_fits f w a b = omega (arith, ints, unsigned_abs-mul f (pos w), mul-le (nat_abs f) w 1000000000 4294967296 a (omega arith))
 
 value : (c : goal.After-nearest_by) → to_z w64 (of_z w64 c.nearest_by.result) ≡ rate_at c.args.self.now.amount c.args.self.now.weights.now c.args.i
 value c =
@@ -29,4 +28,4 @@ returns-clause-small c =
     let d = c.args.self.now in
     let f = d.amount in
     let w = slice_index d.weights.now c.args.i in
-    rw (value c) (omega (arith, nearest_le (f *ℤ pos w) (sum d.weights.now) d.within.some, nat_abs_mul f w, mul-le-mul_right w d.within.size))
+    rw (value c) (omega (arith, nearest_le (f *ℤ pos w) (sum d.weights.now) d.within.some, unsigned_abs-mul f (pos w), mul-le-mul_right w d.within.size))
