@@ -1,7 +1,7 @@
 // The chains of a table, a line for each row.
-ghost use Rattle.std.specs.Prelude.{◌≡◌, ℕ, List, [], ◌∷◌, ◌++◌, IfOk, string_bytes, OnOk};
+ghost use Rattle.std.specs.Prelude.{◌≡◌, [], ◌∷◌, ◌++◌, IfOk, string_bytes, OnOk};
 ghost use Rattle.contract_report.specs.Report.{ChainsText, PrintedAt, chain_lines, count_line, row_words};
-ghost use Rattle.contracts.specs.Chains.{Chain};
+ghost use Rattle.contracts.specs.Chains.{OfChain};
 
 use crate::row_line::RowLine;
 use contracts::{ChainRows, CheckedTable};
@@ -16,7 +16,7 @@ fn add_line(text: &mut String, line: RowLine) -> Result<(), AllocError>
 
 // The lines of the rows that a walk has before it, on the chain that begins at row `head`.
 fn chain_text(heap: Global, walk: ChainRows, head: usize) -> Result<String, AllocError>
-    ensures { IfOk result (λ text. (is : List ℕ) → Chain walk.entry.rows.now walk.entry.place is → string_bytes text ≡ chain_lines walk.entry.rows.now head is) }
+    ensures { IfOk result (λ text. OfChain walk.entry.rows.now walk.entry.place (λ is. string_bytes text ≡ chain_lines walk.entry.rows.now head is)) }
 {
     let mut text = String::new(heap);
     for (place, row) in walk {

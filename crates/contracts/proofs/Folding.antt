@@ -1,7 +1,8 @@
 -- Whatever is made row by row along a chain. Assumes nothing.
-use Rattle.std.proofs.Common.{◌≡◌, ℕ, List, Some, None, fold, Option, sym, refl, subst}
+use Rattle.std.proofs.Common.{◌≡◌, ℕ, List, Some, None, fold, Option, sym, refl, ap, ◌∙◌, subst}
 use Rattle.contracts.specs.declared.rows.ContractRow.{ContractRow}
-use Rattle.contracts.specs.Chains.{row_at, Chain, done, goes}
+use Rattle.contracts.specs.Chains.{row_at, Chain}
+use Rattle.contracts.proofs.Walks.{chain_here, chain_over}
 
 module _ {A : Type 0} (f : A → ℕ → A) (rows : List ContractRow) where
   -- A walk that began at `start` with `first` stands at `here` with `so_far`: what the rows ahead make of that is what the
@@ -17,16 +18,10 @@ module _ {A : Type 0} (f : A → ℕ → A) (rows : List ContractRow) where
       record {
         rest = λ whole c.
             let now = w.rest whole c in
-            step now.0 (subst (λ o. Chain rows o now.0) at_row now.1) (fold f first whole) now.2;
+            let on = chain_here rows here i now.0 at_row now.1 in
+            (on.0, subst (λ o. Chain rows o on.0) (sym onward) on.1, ap (fold f so_far) (sym on.2) ∙ now.2);
       }
-    where
-      step : (ahead : List ℕ) → Chain rows (Some i) ahead → (made : A) → fold f so_far ahead ≡ made → (js : List ℕ) × Chain rows next js × (fold f (f so_far i) js ≡ made)
-      step ahead (goes {is = js} c) made e = (js, subst (λ o. Chain rows o js) (sym onward) c, e)
 
   pub folding_all : (start : Option ℕ) (first : A) (here : Option ℕ) (so_far : A) → here ≡ None → Folding start first here so_far → (whole : List ℕ) → Chain rows start whole → so_far ≡ fold f first whole
   folding_all start first here so_far at-end w whole c =
-      let now = w.rest whole c in
-      last now.0 (subst (λ o. Chain rows o now.0) at-end now.1) (fold f first whole) now.2
-    where
-      last : (ahead : List ℕ) → Chain rows None ahead → (made : A) → fold f so_far ahead ≡ made → so_far ≡ made
-      last ahead done made e = e
+      let now = w.rest whole c in ap (fold f so_far) (sym (chain_over rows here now.0 at-end now.1)) ∙ now.2

@@ -29,6 +29,16 @@ module _ (rows : List ContractRow) where
   pub chain_next : (i : ℕ) (is : List ℕ) → Chain rows (Some i) is → (js : List ℕ) × Chain rows (row_at rows i).next js × (is ≡ i ∷ js)
   chain_next i is (goes {is = js} c) = (js, c, refl)
 
+  -- the same of what a walk has before it that stands at row i, and at none
+  pub chain_here : (o : Option ℕ) (i : ℕ) (is : List ℕ) → o ≡ Some i → Chain rows o is → (js : List ℕ) × Chain rows (row_at rows i).next js × (is ≡ i ∷ js)
+  chain_here o i is e c = chain_next i is (subst (λ p. Chain rows p is) e c)
+
+  pub chain_over : (o : Option ℕ) (is : List ℕ) → o ≡ None → Chain rows o is → is ≡ []
+  chain_over o is e c = none is (subst (λ p. Chain rows p is) e c)
+    where
+      none : (js : List ℕ) → Chain rows None js → js ≡ []
+      none js done = refl
+
   module _ (leads : Each NextInTableAt rows) where
     -- every row of a chain is a row of the table
     pub chain_rows : (o : Option ℕ) (is : List ℕ) (p d : ℕ) → Inside rows o → Chain rows o is → p < length is → get_or is p d < length rows

@@ -19,6 +19,10 @@ pub data Chain (rows : List ContractRow) : Option ℕ → List ℕ → Type 0 wh
   done : Chain rows None []
   goes : {i : ℕ} {is : List ℕ} → Chain rows (row_at rows i).next is → Chain rows (Some i) (i ∷ is)
 
+-- what is said of the chain that begins at a row, or at none
+abbrev pub OfChain : List ContractRow → Option ℕ → (List ℕ → Type 0) → Type 0
+OfChain rows start P = (is : List ℕ) → Chain rows start is → P is
+
 -- the chain from row i ends
 pub record Ends (rows : List ContractRow) (i : ℕ) : Type 0 where
   pub members : List ℕ

@@ -1,5 +1,5 @@
-ghost use Rattle.std.specs.Prelude.{◌≡◌, ℕ, ◌<◌, ◌≤◌, List, [], length, IsTrue, ◌↔◌, MatchOption, MatchResult};
-ghost use Rattle.contracts.specs.Chains.{Chain, Head, LeadsTo, Least, Sound, carried, head_of, row_at};
+ghost use Rattle.std.specs.Prelude.{◌≡◌, ℕ, ◌<◌, ◌≤◌, [], length, IsTrue, ◌↔◌, MatchOption, MatchResult};
+ghost use Rattle.contracts.specs.Chains.{Head, LeadsTo, Least, OfChain, Sound, carried, head_of, row_at};
 ghost use Rattle.contracts.specs.Check.{Fails};
 ghost use Rattle.contracts.specs.declared.faults.TableFault.TheVariants.{NoHead};
 
@@ -89,8 +89,8 @@ impl<'a> CheckedTable<'a> {
     /// `head` is no row, there are none, and it is the quantity itself.
     pub fn carried(&self, head: usize, quantity: u32) -> u32
         ensures most { result ≤ quantity }
-        ensures least { (is : List ℕ) → Chain self.now.rows.now (head_of self.now.rows.now head) is → result ≡ carried self.now.rows.now quantity is }
-        ensures law { (is : List ℕ) → Chain self.now.rows.now (head_of self.now.rows.now head) is → Least self.now.rows.now quantity is result }
+        ensures least { OfChain self.now.rows.now (head_of self.now.rows.now head) (λ is. result ≡ carried self.now.rows.now quantity is) }
+        ensures law { OfChain self.now.rows.now (head_of self.now.rows.now head) (λ is. Least self.now.rows.now quantity is result) }
     {
         least_along(self.chain(head), quantity)
     }
@@ -118,8 +118,8 @@ fn leads_to(rows: &[ContractRow], place: usize) -> bool
 // The least of a quantity and the capacities of the rows that a walk has before it.
 fn least_along(walk: ChainRows, quantity: u32) -> u32
     ensures most { result ≤ quantity }
-    ensures least { (is : List ℕ) → Chain walk.entry.rows.now walk.entry.place is → result ≡ carried walk.entry.rows.now quantity is }
-    ensures law { (is : List ℕ) → Chain walk.entry.rows.now walk.entry.place is → Least walk.entry.rows.now quantity is result }
+    ensures least { OfChain walk.entry.rows.now walk.entry.place (λ is. result ≡ carried walk.entry.rows.now quantity is) }
+    ensures law { OfChain walk.entry.rows.now walk.entry.place (λ is. Least walk.entry.rows.now quantity is result) }
 {
     walk.fold(quantity, |least, (_, row)| least.min(row.capacity))
 }

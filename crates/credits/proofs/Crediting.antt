@@ -2,8 +2,8 @@
 use Rattle.std.proofs.Common.{◌≡◌, ℕ, ◌+◌, ◌<◌, List, [], ◌∷◌, ◌++◌, length, ℤ, Some, None, Option, sym, refl, ap, ◌∙◌, subst, arith, length-append}
 use Rattle.std.proofs.lemmas.List.{append-nil, append_assoc}
 use Rattle.contracts.specs.declared.rows.ContractRow.{ContractRow}
-use Rattle.contracts.specs.Chains.{row_at, Chain, done, goes, Sound}
-use Rattle.contracts.proofs.Walks.{Inside, chain_short}
+use Rattle.contracts.specs.Chains.{row_at, Chain, Sound}
+use Rattle.contracts.proofs.Walks.{Inside, chain_here, chain_over, chain_short}
 use Rattle.contracts.proofs.Sounds.{sound_chain}
 use Rattle.credits.specs.declared.nodes.NodeRecord.{NodeRecord}
 use Rattle.credits.specs.declared.faults.PriceFault.{PriceFault}
@@ -43,18 +43,17 @@ module _ (rows : List ContractRow) (nodes : List NodeRecord) (quantity : ℤ) wh
       record {
         ahead = λ whole chain.
             let now = w.ahead whole chain in
-            step whole now.members (subst (λ o. Chain rows o now.members) at_row now.chain) now.makes now.fault now.count;
+            let on = chain_here rows here i now.members at_row now.chain in
+            let js = on.0 in
+            let makes = rw on.2 at now.makes in
+            record {
+              members = js;
+              chain = subst (λ o. Chain rows o js) (sym onward) on.1;
+              makes = append_assoc made (cents ∷ []) (credits rows nodes quantity js) ∙ ap (λ x. made ++ x ∷ credits rows nodes quantity js) value ∙ makes;
+              fault = rw (on.2, sound) at now.fault;
+              count = omega (arith, length-append made (cents ∷ []), ap length on.2, now.count);
+            };
       }
-    where
-      step : (whole members : List ℕ) → Chain rows (Some i) members → made ++ credits rows nodes quantity members ≡ credits rows nodes quantity whole → chain_fault rows nodes members ≡ chain_fault rows nodes whole → length made + length members ≡ length whole → Ahead next (made ++ cents ∷ []) whole
-      step whole members (goes {is = js} d) makes fault count =
-          record {
-            members = js;
-            chain = subst (λ o. Chain rows o js) (sym onward) d;
-            makes = append_assoc made (cents ∷ []) (credits rows nodes quantity js) ∙ ap (λ x. made ++ x ∷ credits rows nodes quantity js) value ∙ makes;
-            fault = rw sound at fault;
-            count = omega (arith, length-append made (cents ∷ []));
-          }
 
   -- on a sound table there is room for the credit of each row
   pub crediting_room : (start : Option ℕ) (i : ℕ) (here : Option ℕ) (made : List ℤ) → Sound rows → Inside rows start → here ≡ Some i → Crediting start here made → length made < 256
@@ -62,26 +61,19 @@ module _ (rows : List ContractRow) (nodes : List NodeRecord) (quantity : ℤ) wh
       let whole = sound_chain rows s start inside in
       let now = w.ahead whole.0 whole.1 in
       let short = chain_short rows s.leads start whole.0 inside whole.1 in
-      let some = some_row now.members (subst (λ o. Chain rows o now.members) at_row now.chain) in
-      omega (arith, now.count, s.small)
-    where
-      some_row : (members : List ℕ) → Chain rows (Some i) members → 0 < length members
-      some_row members (goes d) = omega arith
+      let on = chain_here rows here i now.members at_row now.chain in
+      omega (arith, ap length on.2, now.count, s.small)
 
   -- a fault here is the first of the chain
   pub crediting_fault : (start : Option ℕ) (i : ℕ) (here : Option ℕ) (made : List ℤ) (f : PriceFault) → here ≡ Some i → row_fault nodes (row_at rows i) ≡ Some f → Crediting start here made → (whole : List ℕ) → Chain rows start whole → chain_fault rows nodes whole ≡ Some f
   crediting_fault start i here made f at_row wrong w whole chain =
       let now = w.ahead whole chain in
-      first now.members (subst (λ o. Chain rows o now.members) at_row now.chain) now.fault
-    where
-      first : (members : List ℕ) → Chain rows (Some i) members → chain_fault rows nodes members ≡ chain_fault rows nodes whole → chain_fault rows nodes whole ≡ Some f
-      first members (goes {is = js} d) fault = let here-first = rw wrong at fault in sym here-first
+      let on = chain_here rows here i now.members at_row now.chain in
+      sym (rw (on.2, wrong) at now.fault)
 
   -- at the end there is no fault, and all is made
   pub crediting_all : (start here : Option ℕ) (made : List ℤ) → here ≡ None → Crediting start here made → (whole : List ℕ) → Chain rows start whole → (chain_fault rows nodes whole ≡ None) × (made ≡ credits rows nodes quantity whole)
   crediting_all start here made at-end w whole chain =
       let now = w.ahead whole chain in
-      all now.members (subst (λ o. Chain rows o now.members) at-end now.chain) now.makes now.fault
-    where
-      all : (members : List ℕ) → Chain rows None members → made ++ credits rows nodes quantity members ≡ credits rows nodes quantity whole → chain_fault rows nodes members ≡ chain_fault rows nodes whole → (chain_fault rows nodes whole ≡ None) × (made ≡ credits rows nodes quantity whole)
-      all members done makes fault = (sym fault, sym (append-nil made) ∙ makes)
+      let over = chain_over rows here now.members at-end now.chain in
+      (sym (rw over at now.fault), sym (append-nil made) ∙ rw over at now.makes)

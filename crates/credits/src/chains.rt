@@ -1,6 +1,5 @@
 // The credits along a chain of contract rows.
-ghost use Rattle.std.specs.Prelude.{ℕ, List};
-ghost use Rattle.contracts.specs.Chains.{Chain, carried, head_of};
+ghost use Rattle.contracts.specs.Chains.{OfChain, carried, head_of};
 ghost use Rattle.credits.specs.Chains.{Credited, InnerLegsCancel, TotalWithin, balanced, chain_fault, credit_fault, credits, head_fault, schedule_fault};
 ghost use Rattle.credits.specs.Faults.{Answers, AnswersBy, first_fault};
 
@@ -19,7 +18,7 @@ pub fn balanced_quantity(
     head: usize,
     schedule: Schedule,
 ) -> Result<BalancedQuantity, CreditFault>
-    ensures { (is : List ℕ) → Chain table.now.rows.now (head_of table.now.rows.now head) is → AnswersBy (λ q. q.milli_mwh) (first_fault (head_fault table.now.rows.now head) (schedule_fault schedule)) (balanced table.now.rows.now is schedule) result }
+    ensures { OfChain table.now.rows.now (head_of table.now.rows.now head) (λ is. AnswersBy (λ q. q.milli_mwh) (first_fault (head_fault table.now.rows.now head) (schedule_fault schedule)) (balanced table.now.rows.now is schedule) result) }
 {
     table.check_head(head)?;
     schedule.check()?;
@@ -33,7 +32,7 @@ fn credits_along(
     nodes: &[NodeRecord],
     quantity: BalancedQuantity,
 ) -> Result<ChainCredits, PriceFault>
-    ensures { (is : List ℕ) → Chain walk.entry.rows.now walk.entry.place is → Answers (chain_fault walk.entry.rows.now nodes.now is) (credits walk.entry.rows.now nodes.now quantity.milli_mwh is) result }
+    ensures { OfChain walk.entry.rows.now walk.entry.place (λ is. Answers (chain_fault walk.entry.rows.now nodes.now is) (credits walk.entry.rows.now nodes.now quantity.milli_mwh is) result) }
 {
     let mut credits = ChainCredits::new();
     for (_, row) in walk {
@@ -50,7 +49,7 @@ fn judged_credits(
     nodes: &[NodeRecord],
     schedule: Schedule,
 ) -> Result<ChainCredits, CreditFault>
-    ensures { (is : List ℕ) → Chain table.now.rows.now (head_of table.now.rows.now head) is → Answers (credit_fault table.now.rows.now head nodes.now schedule is) (credits table.now.rows.now nodes.now (balanced table.now.rows.now is schedule) is) result }
+    ensures { OfChain table.now.rows.now (head_of table.now.rows.now head) (λ is. Answers (credit_fault table.now.rows.now head nodes.now schedule is) (credits table.now.rows.now nodes.now (balanced table.now.rows.now is schedule) is) result) }
 {
     let quantity = balanced_quantity(table, head, schedule)?;
     Ok(credits_along(table.chain(head), nodes, quantity)?)
