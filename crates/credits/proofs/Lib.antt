@@ -1,3 +1,4 @@
+pub mod Casts
 pub mod Nearests
 pub mod Products
 pub mod PriceLimits

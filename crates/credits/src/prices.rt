@@ -74,6 +74,7 @@ impl BoundedRecord {
     }
 
     // The mean of the prices, each weighted by its deviation; where nothing deviated, their plain mean.
+    #[tactic(auto, using(crate::proofs::Casts::casts), unfolding(crate::specs::Prices::weighted_price))]
     fn mean(self) -> i64
         ensures { result ≡ weighted_price self.hour }
     {
@@ -84,6 +85,7 @@ impl BoundedRecord {
     }
 
     // The price of the record.
+    #[tactic(auto, using(crate::proofs::Casts::casts, crate::proofs::PriceLimits::weighted_price_le))]
     fn weighted_price(self) -> Price
         ensures { result.millicents ≡ weighted_price self.hour }
     {

@@ -47,6 +47,7 @@ impl BalancedQuantity {
     }
 
     // The leg at a price, in cents. (The divisor is tested here, since a constant cannot be made by `NonZeroU64::new`.)
+    #[tactic(auto, using(crate::proofs::Casts::casts, crate::proofs::LegLimits::leg_le), unfolding(crate::specs::Legs::leg))]
     pub(crate) fn leg(self, price: Price) -> i64
         ensures value { result ≡ leg self.milli_mwh price.millicents }
         ensures small { unsigned_abs result ≤ 100000000 }

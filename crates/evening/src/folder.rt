@@ -15,8 +15,9 @@ fn file_bytes(
 ) -> anyhow::Result<Vec<u8>> {
     let path = format!(in rt.alloc(); "{folder}/{name}.csv")?;
     // The path is last, since a long message is cut.
-    fs::read(rt, path.as_str())
-        .map_err(|error| anyhow!("{name}.csv cannot be read, {error}: {path}"))
+    fs::read(rt, path.as_str()).map_err(|error| anyhow!(
+        "{name}.csv cannot be read, {error}: {path}"
+    ))
 }
 
 // The rows of a file of the folder. A line that is none of a row is reported, and ends the run.

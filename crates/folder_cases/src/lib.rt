@@ -93,8 +93,7 @@ mod tests {
     #[test]
     fn reports(rt: HostRuntime) -> Result<(), Fail> {
         for (text, wanted) in REPORTS {
-            let report =
-                report_of(rt.alloc(), text).map_err(|_| Fail::new("a table is not read"))?;
+            let report = report_of(rt.alloc(), text).map_err(|_| Fail::new("a table is not read"))?;
             assert_eq!(rt; report.as_str(), wanted);
         }
         Ok(())
