@@ -41,7 +41,8 @@ fn credits_along(
     Ok(credits)
 }
 
-// The credits of the chain from row `head`, judged in order. The table, the head and the schedule stay three parameters:
+// The credits of the chain from row `head`, judged in order: apart from `chain_credits`, whose clauses are proved by hand, so
+// that a wrong step here fails this contract alone. The table, the head and the schedule stay three parameters:
 // callers ask one table for many heads, so a struct of the three would be made for one call.
 fn judged_credits(
     table: &CheckedTable,

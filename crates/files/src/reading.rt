@@ -60,7 +60,7 @@ pub trait LineText: Sized {
     ghost one: { OneFront line writable };
 }
 
-// The rows whose lines the bytes are.
+// The rows whose lines the bytes are: apart from `read_rows`, so that a wrong line number fails this contract alone.
 fn rows_of<R: LineText + Drop>(heap: Global, bytes: &[u8]) -> Result<Vec<R>, FileFault>
     ensures { MatchResult result (λ v. ReadsAs R.line R.writable bytes.now v.items) (Refuses R.line R.writable bytes.now) }
 {
