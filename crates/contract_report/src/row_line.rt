@@ -6,7 +6,7 @@ use contracts::ContractRow;
 use std::fmt;
 
 // A row of the chain that begins at row `head`, and the row's place in the table.
-#[derive(Clone, Copy)]
+#[derive(Clone, Copy, Debug)]
 pub(super) struct RowLine {
     pub(super) head: usize,
     pub(super) place: usize,

@@ -7,6 +7,7 @@ use crate::rows::ContractRow;
 
 /// A walk along a chain of a checked table: the rows in order, each with its place in the table. It needs no counter of
 /// steps, since in such a table every chain ends.
+// No `Model`: the clauses of `chain` and of `next` follow the rows and the place.
 #[derive(Debug, Drop)]
 pub struct ChainRows<'a> {
     pub(crate) rows: &'a [ContractRow],

@@ -42,7 +42,7 @@ fn check_capacities(rows: &[ContractRow]) -> Result<(), usize>
 }
 
 // Rows that are linked: no more than a table may have, and each next is one of them, so that no walk leaves them.
-#[derive(Clone, Copy)]
+#[derive(Clone, Copy, Debug)]
 struct LinkedRows<'a> {
     rows: &'a [ContractRow],
     ghost small: { length rows.now ≤ 256 },

@@ -115,7 +115,8 @@ fn leads_to(rows: &[ContractRow], place: usize) -> bool
     rows.iter().any(|row| row.next == Some(place))
 }
 
-// The least of a quantity and the capacities of the rows that a walk has before it.
+// The least of a quantity and the capacities of the rows that a walk has before it: apart from `carried`, so that another
+// chain there fails this contract alone.
 fn least_along(walk: ChainRows, quantity: u32) -> u32
     ensures most { result ≤ quantity }
     ensures least { OfChain walk.entry.rows.now walk.entry.place (λ is. result ≡ carried walk.entry.rows.now quantity is) }

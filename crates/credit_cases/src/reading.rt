@@ -9,7 +9,7 @@ use std::num::ParseIntError;
 use std::str::{FromStr, SplitWhitespace};
 
 /// One case of the test: a contract table, the records of the nodes, and the chain that credits are asked for.
-#[derive(Drop)]
+#[derive(Debug, Drop)]
 pub(super) struct Case {
     pub(super) rows: Vec<ContractRow>,
     pub(super) nodes: Vec<NodeRecord>,

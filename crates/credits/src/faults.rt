@@ -69,7 +69,7 @@ impl From<CreditFault> for Refusal {
 }
 
 // The two conversions that `?` makes are written out: the ones that `thiserror` derives have no `from_gives`, which the
-// clauses of the functions that answer a `CreditFault` rest on.
+// clauses of the functions that answer a `CreditFault` rest on, and a `map_err` would name the variant at each `?`.
 impl From<TableFault> for CreditFault {
     ghost from_gives = { λ fault credit_fault. credit_fault ≡ Table fault };
 

@@ -24,7 +24,7 @@ pub struct Price {
 }
 
 // A record with no deviation and no price beyond its limit: such a record has a price.
-#[derive(Clone, Copy)]
+#[derive(Clone, Copy, Debug)]
 struct BoundedRecord {
     hour: NodeRecord,
     ghost bounded: { within_bounds hour ≡ true },

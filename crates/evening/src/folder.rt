@@ -27,14 +27,12 @@ fn rows_of<R: LineText + Drop>(
     name: &str,
 ) -> anyhow::Result<Vec<R>> {
     let bytes = file_bytes(rt, folder, name)?;
-    match read_rows(rt.alloc(), bytes.as_slice()) {
-        Ok(rows) => Ok(rows),
-        Err(fault @ FileFault::Memory) => bail!("{fault}"),
-        Err(fault) => {
-            println!(rt; "{name}: {fault}")?;
-            bail!("{name}.csv is not read past that line")
-        }
+    let rows = read_rows(rt.alloc(), bytes.as_slice());
+    if let Err(fault @ FileFault::Unreadable(_)) = &rows {
+        println!(rt; "{name}: {fault}")?;
+        bail!("{name}.csv is not read past that line");
     }
+    Ok(rows?)
 }
 
 // Reports the contract table and the node records of the folder.

@@ -7,7 +7,7 @@ use std::alloc::{AllocError, Global};
 use std::fmt;
 
 // What `--help` prints.
-#[derive(Clone, Copy)]
+#[derive(Clone, Copy, Debug)]
 pub(super) struct Usage;
 
 impl fmt::Display for Usage {
@@ -39,7 +39,7 @@ impl fmt::Display for Usage {
 }
 
 // Numbers in a row, with commas between them.
-#[derive(Drop)]
+#[derive(Debug, Drop)]
 struct Row<'a, T>(&'a [T]);
 
 impl<'a, T: fmt::Display> fmt::Display for Row<'a, T> {
@@ -73,6 +73,7 @@ impl fmt::Display for Shares {
     }
 }
 
+// Written out, since the largest numbers are constants and `u32::MAX`, and no fields.
 impl fmt::Display for TaskFault {
     fn fmt<W: fmt::Write>(&self, f: &mut fmt::Formatter<W>) -> fmt::Result {
         match self {

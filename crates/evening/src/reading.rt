@@ -6,7 +6,7 @@ ghost use Rattle.evening.specs.Words.{Weighed, Unweighed, Asked, Refuses};
 use crate::task::Task;
 use crate::words::{amount, weight};
 use sharing::{OutOfBounds, check_bounds};
-use std::alloc::{AllocError, AllocFailed, Global};
+use std::alloc::{AllocFailed, Global};
 
 // Why the words are no task. A weight that is no number is named by its place, and a bound by the fault of the layer
 // that judges it.
@@ -19,16 +19,7 @@ pub(super) enum TaskFault {
     Memory,
 }
 
-// The `From` that is derived for an error enum has no contract, and clauses read what these give; so each of the two enums
-// that name want of memory has its own.
-impl From<AllocError> for TaskFault {
-    ghost from_gives = { λ _ r. r ≡ Memory };
-
-    fn from(_error: AllocError) -> TaskFault {
-        TaskFault::Memory
-    }
-}
-
+// The `From` that is derived for an error enum has no contract, and clauses read what these two give.
 impl<T: Drop> From<AllocFailed<T>> for TaskFault {
     ghost from_gives = { λ _ r. r ≡ Memory };
 

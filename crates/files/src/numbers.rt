@@ -31,11 +31,10 @@ fn is_unpadded(field: &[u8]) -> bool
 fn number(field: &[u8]) -> Option<u32>
     ensures { MatchOption result (NoText decimal Small field.now) (IsText decimal Small field.now) }
 {
-    if is_unpadded(field) {
-        digits_value(field)
-    } else {
-        None
+    if !is_unpadded(field) {
+        return None;
     }
+    digits_value(field)
 }
 
 // The price below 0 of this size; there is none of size 0.
@@ -76,7 +75,7 @@ impl FieldText for Option<usize> {
         if field.is_empty() {
             return Some(None);
         }
-        // A place holds every `u32`.
+        // A place holds every `u32`, and there is no `From` for that.
         number(field).map(|place| Some(place as usize))
     }
 }

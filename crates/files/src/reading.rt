@@ -5,6 +5,7 @@ ghost use Rattle.files.specs.Fields.{Front, NoFront, OneFront};
 ghost use Rattle.files.specs.Files.{OneAnswer, ReadsAs, Refuses, fault_words};
 
 use std::alloc::{AllocError, AllocFailed, Global};
+use std::error::Error;
 use std::fmt;
 
 /// Why a file is not read: a line that is no row, by its number counted from 1, or want of memory.
@@ -14,6 +15,9 @@ pub enum FileFault {
     Memory,
 }
 
+impl Error for FileFault {}
+
+// Written out, since a `Display` that `thiserror` derives promises no text.
 impl fmt::Display for FileFault {
     ghost output = { λ fault. Some (fault_words fault) };
 
@@ -26,7 +30,7 @@ impl fmt::Display for FileFault {
 }
 
 // The `From` that is derived for an error enum has no contract, and clauses read what these give; so each of the two enums
-// that name want of memory has its own.
+// that name want of memory has its own. A `map_err` would name the variant again at each `?`.
 impl From<AllocError> for FileFault {
     ghost from_gives = { λ _ r. r ≡ Memory };
 

@@ -22,6 +22,7 @@ pub enum OutOfBounds {
     TotalWeight,
 }
 
+// Written out, since this crate rests on no other than the standard library and `rounding`.
 impl fmt::Display for OutOfBounds {
     fn fmt<W: fmt::Write>(&self, f: &mut fmt::Formatter<W>) -> fmt::Result {
         match self {

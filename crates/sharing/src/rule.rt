@@ -17,6 +17,7 @@ pub trait SharingRule {
     ghost cent: { (r : Self) (f : ℤ) (ws : List ℕ) → Within f ws → OneCent f ws (meaning r f ws) };
 }
 
+// `Ready` stands in the promise of each rule and of this call, since what a caller reads is the promise of the call it makes.
 /// A sharing rule that leaves no rest inside the bounds: its shares add up to the amount.
 pub trait ExactRule: SharingRule {
     /// Shares as the rule does, and answers 0 wherever it shares.
