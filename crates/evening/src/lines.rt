@@ -73,7 +73,7 @@ impl fmt::Display for Shares {
     }
 }
 
-// Written out, since the largest numbers are constants and `u32::MAX`, and no fields.
+// Written out, since beside the standard library the program uses `anyhow` alone.
 impl fmt::Display for TaskFault {
     fn fmt<W: fmt::Write>(&self, f: &mut fmt::Formatter<W>) -> fmt::Result {
         match self {

@@ -22,7 +22,7 @@ pub enum OutOfBounds {
     TotalWeight,
 }
 
-// Written out, since this crate rests on no other than the standard library and `rounding`.
+// Written out, since beside the standard library this crate uses `rounding` alone.
 impl fmt::Display for OutOfBounds {
     fn fmt<W: fmt::Write>(&self, f: &mut fmt::Formatter<W>) -> fmt::Result {
         match self {
