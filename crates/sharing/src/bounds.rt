@@ -1,5 +1,5 @@
 // The bounds inside which the rules share.
-ghost use Rattle.std.specs.Prelude.{◌≡◌, ◌<◌, ◌≤◌, sum, MatchOption, MatchResult};
+ghost use Rattle.std.specs.Prelude.{◌≡◌, ◌+◌, ◌<◌, ◌≤◌, sum, MatchOption, MatchResult};
 ghost use Rattle.std.specs.Int.NonZero.{non_zero_u64_get};
 ghost use Rattle.sharing.specs.Sharing.{Within};
 ghost use Rattle.sharing.specs.Beyond.{Beyond};
@@ -43,14 +43,20 @@ impl fmt::Display for OutOfBounds {
     }
 }
 
-/// The total of the weights; `None` where it passes the largest total. No number of weights overflows 128 bits.
+// The total with one weight more; `None` where it passes the largest total.
+fn add_weight(total: u64, weight: u32) -> Option<u64>
+    ensures { MatchOption result (4000000000 < total + weight) (λ t. (t ≡ total + weight) × (t ≤ 4000000000)) }
+{
+    total
+        .checked_add(u64::from(weight))
+        .filter(|total| *total <= MAX_TOTAL_WEIGHT)
+}
+
+/// The total of the weights; `None` where it passes the largest total. Adding stops at the weight that passes it.
 pub fn total_weight(weights: &[u32]) -> Option<u64>
     ensures { MatchOption result (4000000000 < sum weights.now) (λ t. (t ≡ sum weights.now) × (t ≤ 4000000000)) }
 {
-    let total: u128 = weights.iter().map(|w| u128::from(*w)).sum();
-    u64::try_from(total)
-        .ok()
-        .filter(|total| *total <= MAX_TOTAL_WEIGHT)
+    weights.iter().try_fold(0, |total, w| add_weight(total, *w))
 }
 
 // What `check_bounds` answers, with a total whose type says that it is not 0.

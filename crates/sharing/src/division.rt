@@ -94,26 +94,27 @@ impl<'a> Division<'a> {
         self.size() - whole
     }
 
-    // Whether place `j` comes before place `i` for a spare cent.
-    fn comes_before(&self, j: usize, i: usize) -> bool
+    // Whether place `j` comes before place `i` for a spare cent, where `own` is what the division at place `i` leaves.
+    fn comes_before(&self, j: usize, i: usize, own: u64) -> bool
         requires other { j < length self.now.weights.now }
-        requires own { i < length self.now.weights.now }
+        requires own { own ≡ left (unsigned_abs self.now.amount) self.now.weights.now i }
         ensures { result ≡ ahead (unsigned_abs self.now.amount) self.now.weights.now j i }
     {
         let other = self.remainder(j);
-        let own = self.remainder(i);
         other > own || other == own && j < i
     }
 
     // How many places come before place `i` for a spare cent. They are counted and not sorted, since nothing is allocated
-    // here, and the rule's law speaks of this count. (`as`, since Rust has no `From` of a count to a `u64`.)
+    // here, and the rule's law speaks of this count. Each pair of places is compared, so what the division at `i` leaves is
+    // taken once, and a place adds 0 or 1 with no branch.
     fn rank(&self, i: usize) -> u64
         requires { i < length self.now.weights.now }
         ensures { result ≡ rank (unsigned_abs self.now.amount) self.now.weights.now i }
     {
+        let own = self.remainder(i);
         (0..self.weights.len())
-            .filter(|j| self.comes_before(*j, i))
-            .count() as u64
+            .map(|j| u64::from(self.comes_before(j, i, own)))
+            .sum()
     }
 
     // The cents of place `i`: its whole cents, and one of the `k` spare cents if fewer than `k` places come before it.
