@@ -1,16 +1,30 @@
 -- What plain digits write, in words of `decimal` and `signed_decimal`. Assumes nothing.
-use Rattle.std.specs.Prelude.{◌≡◌, ℕ, zero, suc, ◌^◌, ◌<◌, List, [], ◌∷◌, length, drop, ℤ, pos, negsuc, neg_ℤ, Some, None, Ok, decimal, Option, Result, MatchOption, ◌≢◌, slice_index, refl}
+use Rattle.std.specs.Prelude.{◌≡◌, ℕ, zero, suc, ◌+◌, ◌*◌, ◌^◌, ◌<◌, List, [], ◌∷◌, length, take, drop, ℤ, pos, negsuc, neg_ℤ, Some, None, Ok, decimal, Option, Result, MatchOption, ◌≢◌, slice_index, refl}
 use Rattle.std.proofs.Common.{sym, ap, subst, ◌∙◌, arith}
 use Rattle.std.specs.Int.Signed.{mag}
 use Rattle.std.specs.Str.Parse.{AllDigits, digits_value, ParsesUnsigned}
 use Rattle.std.specs.Int.{IsInRange}
+use Rattle.std.specs.Char.{digit_value}
 use Rattle.std.specs.Fmt.{signed_decimal}
 use Rattle.std.proofs.lemmas.Fmt.{decimal_digit, decimal_nonempty, decimal-digits_value, digits_decimal, first_decimal, decimal_injective, signed_decimal_injective, digits_value-decimal}
-use Rattle.std.proofs.lemmas.Str.Parse.{IsNumeralModel, digit_at, parse_gives, not_in_digits, numerals_by_value, tells_digits}
+use Rattle.std.proofs.lemmas.Int.Digits.{digits_more, digits_value_more}
+use Rattle.std.proofs.lemmas.Str.{digit_value_digit}
+use Rattle.std.proofs.lemmas.Str.Parse.{IsNumeralModel, digit_at, digits_value-take-le, parse_gives, not_in_digits, numerals_by_value, tells_digits}
 use Rattle.files.specs.Fields.{Small, SmallPrice, SmallNext, next_text, Unpadded, Valued, IsText, NoText, Lacks}
 
 plain : IsNumeralModel (AllDigits 10) (digits_value 10)
 plain = numerals_by_value (AllDigits 10) tells_digits
+
+-- one digit more, after those so far
+pub valued_more : (field : List ℕ) (i n m : ℕ) → i < length field → Valued (take i field) n → digit_value (slice_index field i) < 10 → Small m → m ≡ n * 10 + digit_value (slice_index field i) → Valued (take (i + 1) field) m
+valued_more field i n m within so_far digit small is =
+    record { digits = digits_more 10 field i within so_far.digits digit; is = omega (arith, digits_value_more 10 field i within, so_far.is); small = small }
+
+-- where there is none, the field is no digits of a small value
+pub unvalued_at : (field : List ℕ) (i n : ℕ) → i < length field → Valued (take i field) n → ((digit_value (slice_index field i) < 10) × Small (n * 10 + digit_value (slice_index field i)) → ⊥) → (m : ℕ) → Valued field m → ⊥
+unvalued_at field i n within so_far none m v =
+    let digit = digit_at field i v.digits within in
+    none (omega (arith, digit_value_digit (slice_index field i) digit), omega (arith, digits_value_more 10 field i within, digits_value-take-le 10 field (i + 1) (omega arith), v.is, v.small, so_far.is))
 
 some_from_digit : (field : List ℕ) → IsInRange 48 57 (slice_index field 0) → 0 < length field
 some_from_digit [] digit = absurd (omega (arith, digit))
@@ -45,6 +59,9 @@ no_text_from_unspelled field none n small e =
     let low : n < 2 ^ 64 = omega arith in
     let first = digit_at (decimal n) 0 (digits_decimal plain n low) (decimal_nonempty n low) in
     none (subst Unpadded (sym e) (unpadded_decimal n low)) (subst (λ ds. IsInRange 48 57 (slice_index ds 0)) (sym e) first)
+
+pub no_text_from_padded : (field : List ℕ) → (Unpadded field → ⊥) → NoText decimal Small field
+no_text_from_padded field padded = no_text_from_unspelled field (λ unpadded digit. padded unpadded)
 
 -- a reading by cases, from another
 pub cases_from : {X : Type 0} (o : Option X) {P P' : Type 0} {Q Q' : X → Type 0} → MatchOption o P Q → (P → P') → ((x : X) → Q x → Q' x) → MatchOption o P' Q'

@@ -1,30 +1,43 @@
 // The numbers that fields write.
-ghost use Rattle.std.specs.Prelude.{◌≡◌, ℕ, ◌<◌, ◌≤◌, ◌∷◌, pos, neg_ℤ, decimal, ◌↔◌, slice_index, IsTrue, MatchOption};
+ghost use Rattle.std.specs.Prelude.{◌≡◌, ℕ, ◌<◌, ◌+◌, ◌*◌, ◌∷◌, pos, neg_ℤ, decimal, ◌↔◌, IsTrue, MatchOption};
+ghost use Rattle.std.specs.Char.{digit_value};
 ghost use Rattle.std.specs.Fmt.{signed_decimal};
-ghost use Rattle.std.specs.Int.{IsInRange};
+ghost use Rattle.std.specs.Option.{SomeIff};
 ghost use Rattle.files.specs.Fields.{Small, SmallPrice, SmallNext, next_text, Unpadded, Valued, IsText, NoText};
 ghost use Rattle.files.specs.Splitting.{clean_decimal, clean_next, clean_signed};
 
 use crate::fields::FieldText;
 
 // The largest number that a file may hold, and the largest price, up or down.
-const MAX_NUMBER: u32 = 2_000_000_000;
+const MAX_NUMBER: u64 = 2_000_000_000;
 
-// The value of a field of digits, where it is small enough. (It begins with a digit, since `parse` takes a plus too.)
-fn digits_value(field: &[u8]) -> Option<u32>
-    requires { IsInRange 48 57 (slice_index field.now 0) }
-    ensures { MatchOption result ((n : ℕ) → Valued field.now n → ⊥) (Valued field.now) }
+// The value with one digit more, where that is a digit and the value stays small. No step overflows 64 bits, and a small
+// value fits 32 again.
+fn with_digit(value: u32, digit: u8) -> Option<u32>
+    ensures { SomeIff result ((digit_value digit < 10) × Small (value * 10 + digit_value digit)) (value * 10 + digit_value digit) }
 {
-    let text = str::from_utf8(field).ok()?;
-    let value = text.parse::<u32>().ok()?;
-    (value <= MAX_NUMBER).then_some(value)
+    let digit = char::from(digit).to_digit(10)?;
+    let value = u64::from(value) * 10 + u64::from(digit);
+    (value <= MAX_NUMBER).then(|| value as u32)
 }
 
-// Whether a field begins with a digit, and with a 0 only if that is all.
-fn is_unpadded(field: &[u8]) -> bool
-    ensures { IsTrue result ↔ (Unpadded field.now × IsInRange 48 57 (slice_index field.now 0)) }
+// The value of a field of digits, where it is small enough.
+#[tactic(auto, using(crate::specs::Spelling::unvalued_at))]
+fn digits_value(field: &[u8]) -> Option<u32>
+    ensures { MatchOption result ((n : ℕ) → Valued field.now n → ⊥) (Valued field.now) }
 {
-    matches!(field, [b'0'] | [b'1'..=b'9', ..])
+    let mut value = 0;
+    for digit in field {
+        value = with_digit(value, *digit)?;
+    }
+    Some(value)
+}
+
+// Whether a field has a byte, and begins with a 0 only if that is all.
+fn is_unpadded(field: &[u8]) -> bool
+    ensures { IsTrue result ↔ Unpadded field.now }
+{
+    !matches!(field, [] | [b'0', _, ..])
 }
 
 // The number that a field writes.
