@@ -75,7 +75,7 @@ impl<'a> LinkedRows<'a> {
     // Walks from row `first` and writes the walk's number, which is `first`, at each new row. A row that an earlier walk saw
     // is known to end; one that this walk saw closes a circle. So all walks together write at each row once. (`successors`
     // would have no end of its own on a circle.)
-    fn chain_ends(&self, first: usize, walks: &mut [Option<usize>; MAX_ROWS]) -> bool
+    fn chain_ends(&self, first: usize, walks: &mut [Option<u8>; MAX_ROWS]) -> bool
         requires row { first < length self.now.rows.now }
         requires walked { Walked self.now.rows.now first walks.old }
         ensures ends { IsTrue result ↔ Ends self.now.rows.now first }
@@ -84,9 +84,9 @@ impl<'a> LinkedRows<'a> {
         let mut place = Some(first);
         while let Some(row) = place {
             if let Some(walk) = walks[row] {
-                return walk != first;
+                return usize::from(walk) != first;
             }
-            walks[row] = Some(first);
+            walks[row] = Some(first as u8);
             place = self.rows[row].next;
         }
         true
@@ -97,7 +97,8 @@ impl<'a> LinkedRows<'a> {
     fn check_chains(&self) -> Result<(), usize>
         ensures { MatchResult result (λ _. Each Ends self.now.rows.now) (Lowest Ends self.now.rows.now) }
     {
-        // Beside the rows, which are only lent, and of fixed size, since nothing is allocated here.
+        // Beside the rows, which are only lent, and of fixed size, since nothing is allocated here. A walk's number is a row's
+        // place, which fits a byte: the array is cleared for each table, however short.
         let mut walks = [None; MAX_ROWS];
         for (i, _row) in self.rows.iter().enumerate() {
             if !self.chain_ends(i, &mut walks) {
