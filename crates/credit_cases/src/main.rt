@@ -11,7 +11,7 @@ use reading::{Case, read};
 use refusals::Refusal;
 use std::io;
 
-// What a call answered, or its refusal.
+// What a call answered, as `show` prints it on a line of its own, or its refusal. Each line is one print: a print is a write.
 fn print_answer<T, F, S>(
     rt: &impl Print,
     name: &str,
@@ -24,12 +24,10 @@ where
     S: FnOnce(T) -> io::Result<()> + Drop,
     requires { S.IsAlwaysCallable show }
 {
-    print!(rt; "{name}: ")?;
     match answer {
         Ok(value) => show(value)?,
-        Err(fault) => rt.print(fault.into())?,
+        Err(fault) => println!(rt; "{name}: {}", fault.into())?,
     }
-    println!(rt; "")?;
     Ok(())
 }
 
@@ -61,17 +59,17 @@ fn print_case(rt: &impl Print, case: &Case) -> anyhow::Result<()> {
     let nodes = case.nodes.as_slice();
     let table = CheckedTable::new(rows);
     print_answer(rt, "check", check_contracts(rows), |count| {
-        print!(rt; "{count} rows")
+        println!(rt; "check: {count} rows")
     })?;
     print_chain(rt, &table, case.head)?;
     print_prices(rt, nodes)?;
     let balanced = balanced_quantity(&table, case.head, case.schedule);
     print_answer(rt, "balanced", balanced, |quantity| {
-        rt.print(quantity.milli_mwh)
+        println!(rt; "balanced: {}", quantity.milli_mwh)
     })?;
     let credits = chain_credits(&table, case.head, nodes, case.schedule);
     print_answer(rt, "credits", credits, |credits| {
-        print!(rt; "{:?}", credits.as_slice())
+        println!(rt; "credits: {:?}", credits.as_slice())
     })
 }
 

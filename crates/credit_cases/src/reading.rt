@@ -22,7 +22,8 @@ fn word<'a>(words: &mut SplitWhitespace<'a>) -> anyhow::Result<&'a str> {
     Ok(words.next().context("a number is missing")?)
 }
 
-// The next word, a number.
+// The next word, a number. (Inline, since a result with room for an error is else made and copied at each number.)
+#[inline(always)]
 fn number<T: FromStr<Err = ParseIntError>>(words: &mut SplitWhitespace<'_>) -> anyhow::Result<T> {
     Ok(word(words)?.parse()?)
 }
@@ -56,15 +57,32 @@ fn node(text: &str) -> anyhow::Result<NodeRecord> {
     })
 }
 
+// The items of a part of the line, each ended by `;`. (A loop, since a `try_collect` copies a result with room for an error
+// at each item.)
+fn list<T: Drop, F: Fn(&str) -> anyhow::Result<T>>(
+    heap: Global,
+    text: &str,
+    item: F,
+) -> anyhow::Result<Vec<T>>
+    requires { F.IsAlwaysCallable item }
+{
+    let mut items = Vec::new(heap);
+    for part in text.split_terminator(';') {
+        items.push(item(part)?)?;
+    }
+    Ok(items)
+}
+
 // Reads a case from its line.
 pub(super) fn read(heap: Global, line: &str) -> anyhow::Result<Case> {
     let mut parts = line.split('|');
-    let rows = parts.next().context("no rows")?;
-    let nodes = parts.next().context("no nodes")?;
+    // Each part is read before the next is looked for, so that the first fault of a line is the one that is named.
+    let rows = list(heap, parts.next().context("no rows")?, row)?;
+    let nodes = list(heap, parts.next().context("no nodes")?, node)?;
     let mut words = parts.next().context("no question")?.split_whitespace();
     Ok(Case {
-        rows: rows.split_terminator(';').map(row).try_collect(heap)?,
-        nodes: nodes.split_terminator(';').map(node).try_collect(heap)?,
+        rows,
+        nodes,
         head: number(&mut words)?,
         schedule: Schedule {
             demand: number(&mut words)?,
